@@ -1,0 +1,4 @@
+pub mod ContentsLemmas
+pub mod LinesLemmas
+pub mod ReadingLemmas
+pub mod WindowLemmas

@@ -1,0 +1,56 @@
+-- What a reader's answers say, from what its window shows.
+use Rattle.std.proofs.Common.{◌≡◌, ◌∙◌, ℕ, ◌+◌, ◌-◌, ◌<◌, ◌≤◌, Bool, true, false, cond, Option, None, Some, IfSome, List, [], ◌∷◌, ◌++◌, length, take, drop, refl, ap, sym, subst, arith, inl, inr, length-take, length-append, append-nil}
+use Rattle.std.specs.Io.BufRead.{strip_last, ends_with_byte}
+use Rattle.std.proofs.lemmas.List.{take-append-drop}
+use Rattle.edge_face.specs.Contents.{preceded}
+use Rattle.edge_face.specs.Lines.{piece_of, after_piece, line_of, HasNoNewline, ShowsPiece, line_limit, input_limit}
+use Rattle.edge_face.specs.Reading.{Reading, IsTooLong, ShowsLine, TakesLine, left_of}
+use Rattle.edge_face.proofs.ContentsLemmas.{preceded-preceded}
+use Rattle.edge_face.proofs.LinesLemmas.{piece-none, strip-none}
+
+-- at most one byte is cut
+strip-least : (byte : ℕ) (bytes : List ℕ) → length bytes - 1 ≤ length (strip_last byte bytes)
+strip-least byte bytes = go (ends_with_byte byte bytes)
+  where
+    go : (b : Bool) → length bytes - 1 ≤ length (cond b (take (length bytes - 1) bytes) bytes)
+    go true = omega (arith, length-take (length bytes - 1) bytes)
+    go false = omega arith
+
+-- a full window without a newline begins a line that is too long
+long_piece : (waiting rest : List ℕ) → HasNoNewline waiting → length waiting ≡ line_limit + 1 → line_limit < length (strip_last 10 (piece_of (waiting ++ rest)))
+long_piece waiting rest none full = subst (λ l. line_limit < length (strip_last 10 l)) (sym (piece-none waiting rest none)) (by_rest (piece_of rest))
+  where
+    by_rest : (more : List ℕ) → line_limit < length (strip_last 10 (waiting ++ more))
+    by_rest [] = subst (λ l. line_limit < length (strip_last 10 l)) (sym (append-nil waiting)) (omega (arith, full, ap length (strip-none waiting none)))
+    by_rest (x ∷ xs) = omega (arith, full, strip-least 10 (waiting ++ x ∷ xs), length-append waiting (x ∷ xs))
+
+pub too_long_full : (answered : ℕ) (waiting : List ℕ) (left : Option (List ℕ)) → HasNoNewline waiting → length waiting ≡ line_limit + 1 → IfSome (preceded waiting left) (λ all. IsTooLong answered all (line_limit + 1))
+too_long_full answered waiting None none full = tt
+too_long_full answered waiting (Some rest) none full = inl (long_piece waiting rest none full, refl)
+
+-- a line that is shown is taken
+pub takes_line : (line : List ℕ) (n : ℕ) (before shown after : Reading) (old new : Option (List ℕ)) → left_of shown new ≡ left_of before old → shown.answered ≡ before.answered
+    → ShowsLine n shown new → 0 < n → line ≡ line_of (take n shown.pending) → after ≡ record { pending = drop n shown.pending; answered = shown.answered + n; refused = shown.refused } → TakesLine line before after old new
+takes_line line n before shown after old new kept counted shows some is passed =
+    let inside = shows.shown.inside in
+    let long : length (take n shown.pending) ≡ n = omega (arith, length-take n shown.pending, inside) in
+    record {
+      piece = take n shown.pending;
+      line_is = is;
+      moved = sym kept ∙ ap (λ l. preceded l new) (sym (take-append-drop n shown.pending)) ∙ sym (preceded-preceded (take n shown.pending) (drop n shown.pending) new) ∙ ap (λ r. preceded (take n shown.pending) (left_of r new)) (sym passed);
+      first = subst (λ o. IfSome o (λ all. take n shown.pending ≡ piece_of all)) kept (first new shows.shown.piece);
+      rest = subst (λ o. IfSome o (λ all. left_of after new ≡ Some (after_piece all))) kept (subst (λ r. IfSome (left_of shown new) (λ all. left_of r new ≡ Some (after_piece all))) (sym passed) (rest new shows.shown.after));
+      some = omega arith;
+      short = shows.shown.short;
+      counted = ap (λ r. r.answered) passed ∙ ap (λ k. k + n) counted ∙ ap (λ k. before.answered + k) (sym long);
+      within = subst (λ r. r.answered ≤ input_limit) (sym passed) shows.within;
+      fine = ap (λ r. r.refused) passed ∙ shows.fine;
+    }
+  where
+    first : (left : Option (List ℕ)) → IfSome left (λ rest. piece_of (shown.pending ++ rest) ≡ take n shown.pending) → IfSome (preceded shown.pending left) (λ all. take n shown.pending ≡ piece_of all)
+    first None h = tt
+    first (Some rest) h = sym h
+
+    rest : (left : Option (List ℕ)) → IfSome left (λ rest. after_piece (shown.pending ++ rest) ≡ drop n shown.pending ++ rest) → IfSome (preceded shown.pending left) (λ all. preceded (drop n shown.pending) left ≡ Some (after_piece all))
+    rest None h = tt
+    rest (Some more) h = ap Some (sym h)
