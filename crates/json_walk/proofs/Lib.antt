@@ -1,0 +1,5 @@
+pub mod Ascending
+pub mod Behind
+pub mod Gather
+pub mod Named
+pub mod Trees
