@@ -1,0 +1,3 @@
+pub mod Reply
+pub mod Sheet
+pub mod Trees
