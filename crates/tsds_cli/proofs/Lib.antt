@@ -1,0 +1,4 @@
+pub mod AheadLemmas
+pub mod PiecesLemmas
+pub mod ProgressLemmas
+pub mod SourcesLemmas

@@ -1,0 +1,12 @@
+use Rattle.std.proofs.Common.{◌≡◌, take, drop}
+use Rattle.std.proofs.lemmas.List.{take-append-drop}
+use Rattle.tsds_cli.specs.Progress.{IsPut}
+use Rattle.tsds_cli.proofs.program.put_reply.Goals as goal
+
+pub returns-in-Err-clause-part : goal.returns-in-Err-clause-part
+returns-in-Err-clause-part g c = record {
+  part = take c.in-Err.field-0.gone c.args.reply.now;
+  more = drop c.in-Err.field-0.gone c.args.reply.now;
+  whole = take-append-drop c.in-Err.field-0.gone c.args.reply.now;
+  given_is = c.in-Err.ensures.failed;
+}

@@ -1,0 +1,16 @@
+use Rattle.std.proofs.Common.{◌≡◌, ℕ, [], ◌∷◌, refl, lit<, sym, subst}
+use Rattle.std.specs.Prelude.{Contains}
+use Rattle.tsds_cli.specs.declared.program.RunError.{RunError}
+use Rattle.tsds_cli.specs.declared.program.RunError.TheVariants.{NoMemory, Read, Write, TooLong}
+use Rattle.tsds_cli.specs.Words.{status_of}
+use Rattle.tsds_cli.proofs.program.top.Goals as goal
+
+-- each error has a status of its own
+known_status : (error : RunError) → Contains (0 ∷ 2 ∷ 3 ∷ 4 ∷ 7 ∷ 8 ∷ []) (status_of error)
+known_status NoMemory = (2, lit< tt, refl)
+known_status Read = (3, lit< tt, refl)
+known_status Write = (4, lit< tt, refl)
+known_status TooLong = (5, lit< tt, refl)
+
+pub returns-in-Err-clause-known : goal.returns-in-Err-clause-known
+returns-in-Err-clause-known g c = subst (λ s. Contains (0 ∷ 2 ∷ 3 ∷ 4 ∷ 7 ∷ 8 ∷ []) s) (sym c.status.ensures) (known_status c.in-Err.error)

@@ -1,0 +1,148 @@
+-- The plain machine: one list of documents, and what it answers.
+use Rattle.std.specs.Prelude.{ℕ, ◌==◌, ℤ, pos, negsuc, List, [], ◌∷◌, ◌++◌, length, Bool, true, false, not, ◌&&◌, map, bytes_eq, codes, nat_lt, Option, None, Some, option_and_then, if◌then◌else◌}
+use Rattle.std.specs.Option.{option_map}
+use Rattle.std.specs.List.{list_any, slice_split}
+use Rattle.std.specs.Fmt.{decimal}
+use Rattle.std.specs.Ordering.{int_eq}
+use Rattle.serde_json.specs.Data.{Data}
+use Rattle.serde_json.specs.Find.{get, as_number, as_i64, as_str}
+use Rattle.json_walk.specs.Names.{has_names}
+use Rattle.json_walk.specs.Tree.{tree_of}
+use Rattle.reply_json.specs.declared.out.Out.{Out, Flag, Num, Word, List as array, Object}
+use Rattle.reply_json.specs.Reply.{text}
+use Rattle.reply_json.specs.Trees.{member, error_tree}
+use Rattle.tsds_cli.specs.declared.script.Event.{Event}
+use Rattle.tsds_cli.specs.declared.documents.Document.{Document}
+use Rattle.tsds_cli.specs.declared.machine.Asked.{Asked}
+use Rattle.tsds_cli.specs.declared.machine.Asked.TheVariants.{Count, Bulk, Other}
+use Rattle.tsds_cli.specs.declared.documents.Outcome.{Outcome}
+use Rattle.tsds_cli.specs.declared.documents.Outcome.TheVariants.{Created, Conflict, NotBuilt}
+
+-- the whole number and the text at a name
+abbrev pub whole_at : List ℕ → Data → Option ℤ
+whole_at name tree = option_and_then as_i64 (option_and_then as_number (get name tree))
+
+abbrev pub text_at : List ℕ → Data → Option (List ℕ)
+text_at name tree = option_and_then as_str (get name tree)
+
+-- milliseconds from the start of 1970 to the end of 9999
+abbrev pub is_instant : ℤ → Bool
+is_instant (pos n) = nat_lt n 253402300800000
+is_instant (negsuc n) = false
+
+abbrev pub document_from : Option ℤ → Option (List ℕ) → Option ℤ → Option Document
+document_from (Some time) (Some host) (Some v) = if is_instant time then Some (record { host = host; time = time; v = v }) else None
+document_from (Some time) (Some host) None = None
+document_from (Some time) None v = None
+document_from None host v = None
+
+-- a document has these three members and no other
+abbrev pub tree_document : Data → Option Document
+tree_document tree =
+    if has_names (codes "@timestamp" ∷ codes "host" ∷ codes "v" ∷ []) tree
+    then document_from (whole_at (codes "@timestamp") tree) (text_at (codes "host") tree) (whole_at (codes "v") tree)
+    else None
+
+-- the document that a source is, or none
+unfoldable pub document_of : List ℕ → Option Document
+document_of source = option_and_then tree_document (tree_of source)
+
+-- the document has this host and time
+abbrev pub is_at : List ℕ → ℤ → Document → Bool
+is_at host time document = int_eq document.time time && bytes_eq document.host host
+
+-- what becomes of a source, and the documents after it
+abbrev pub outcome_from : List Document → Option Document → Outcome
+outcome_from documents None = NotBuilt
+outcome_from documents (Some document) = if list_any (is_at document.host document.time) documents then Conflict else Created
+
+abbrev pub added_from : List Document → Option Document → List Document
+added_from documents None = documents
+added_from documents (Some document) = if list_any (is_at document.host document.time) documents then documents else documents ++ document ∷ []
+
+abbrev pub outcomes_of : List Document → List (List ℕ) → List Outcome
+outcomes_of documents [] = []
+outcomes_of documents (source ∷ sources) = outcome_from documents (document_of source) ∷ outcomes_of (added_from documents (document_of source)) sources
+
+abbrev pub documents_after : List Document → List (List ℕ) → List Document
+documents_after documents [] = documents
+documents_after documents (source ∷ sources) = documents_after (added_from documents (document_of source)) sources
+
+-- the sources in the parts between a body's newlines: before each stands the action `{"create":{}}`, and the last part is empty
+abbrev pub sources_of : List (List ℕ) → Option (List (List ℕ))
+sources_of [] = None
+sources_of (last ∷ []) = if bytes_eq last [] then Some [] else None
+sources_of (action ∷ source ∷ parts) = if bytes_eq action (codes "{\"create\":{}}") then option_map (λ sources. source ∷ sources) (sources_of parts) else None
+
+-- the sources of a bulk body that has at least one
+abbrev pub some_sources : Option (List (List ℕ)) → Option (List (List ℕ))
+some_sources None = None
+some_sources (Some []) = None
+some_sources (Some (source ∷ sources)) = Some (source ∷ sources)
+
+abbrev pub bulk_sources : List ℕ → Option (List (List ℕ))
+bulk_sources body = some_sources (sources_of (slice_split (λ b. b == 10) body))
+
+-- a refused item
+abbrev pub refused_item : ℕ → List ℕ → List ℕ → Out
+refused_item status kind reason =
+    Object (member (codes "create") (Object (member (codes "_index") (Word (codes "m")) ∷ member (codes "status") (Num (pos status))
+    ∷ member (codes "error") (Object (member (codes "type") (Word kind) ∷ member (codes "reason") (Word reason) ∷ [])) ∷ [])) ∷ [])
+
+-- the item of the reply
+abbrev pub item_of : Outcome → Out
+item_of Created = Object (member (codes "create") (Object (member (codes "_index") (Word (codes "m")) ∷ member (codes "result") (Word (codes "created")) ∷ member (codes "status") (Num (pos 201)) ∷ [])) ∷ [])
+item_of Conflict = refused_item 409 (codes "version_conflict_engine_exception") (codes "version conflict, document already exists")
+item_of NotBuilt = refused_item 400 (codes "not_built_exception") (codes "not built")
+
+abbrev pub is_refused : Outcome → Bool
+is_refused Created = false
+is_refused Conflict = true
+is_refused NotBuilt = true
+
+-- a status and a tree, in one line
+unfoldable pub reply_line : ℕ → Out → List ℕ
+reply_line status tree = decimal status ++ (32 ∷ (text tree ++ 10 ∷ []))
+
+unfoldable pub not_built : List ℕ
+not_built = reply_line 400 (error_tree 400 (codes "not_built_exception") (codes "not built"))
+
+unfoldable pub count_reply : ℕ → List ℕ
+count_reply count = reply_line 200 (Object (member (codes "count") (Num (pos count)) ∷ []))
+
+abbrev pub bulk_tree : Bool → List Out → Out
+bulk_tree errors items = Object (member (codes "errors") (Flag errors) ∷ member (codes "items") (array items) ∷ [])
+
+unfoldable pub bulk_reply : List Outcome → List ℕ
+bulk_reply outcomes = reply_line 200 (bulk_tree (list_any is_refused outcomes) (map item_of outcomes))
+
+-- the two requests that are answered, byte for byte
+abbrev pub asked_by : List ℕ → Asked
+asked_by line =
+    if bytes_eq line (codes "GET /m/_count") then Count
+    else (if bytes_eq line (codes "POST /m/_bulk") then Bulk else Other)
+
+abbrev pub bulk_to : List Document → Option (List (List ℕ)) → List ℕ
+bulk_to documents None = not_built
+bulk_to documents (Some sources) = bulk_reply (outcomes_of documents sources)
+
+abbrev pub bulk_after : List Document → Option (List (List ℕ)) → List Document
+bulk_after documents None = documents
+bulk_after documents (Some sources) = documents_after documents sources
+
+-- the reply to a request, and the documents after it
+abbrev pub reply_as : Asked → List Document → List ℕ → List ℕ
+reply_as Count documents body = count_reply (length documents)
+reply_as Bulk documents body = bulk_to documents (bulk_sources body)
+reply_as Other documents body = not_built
+
+abbrev pub after_as : Asked → List Document → List ℕ → List Document
+after_as Count documents body = documents
+after_as Bulk documents body = bulk_after documents (bulk_sources body)
+after_as Other documents body = documents
+
+unfoldable pub reply_to : List Document → Event → List ℕ
+reply_to documents event = reply_as (asked_by event.line) documents event.body
+
+unfoldable pub after : List Document → Event → List Document
+after documents event = after_as (asked_by event.line) documents event.body

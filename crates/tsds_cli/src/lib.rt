@@ -1,0 +1,9 @@
+//! The command line: scripts, their replies, and the top call of the program.
+#![tactic(auto)]
+
+mod documents;
+mod machine;
+mod program;
+mod script;
+
+pub use program::{status_text, top};
