@@ -1,0 +1,5 @@
+pub mod BucketLemmas
+pub mod DayLemmas
+pub mod IntervalLemmas
+pub mod PrintedLemmas
+pub mod ShapeLemmas

@@ -1,0 +1,6 @@
+-- The numbers of intervals.
+use Rattle.std.specs.Prelude.{ℕ, Bool, ◌&&◌, not, ◌==◌, nat_le, List, length, slice_index}
+
+-- one to fifteen digits without a leading zero; of a list of digits
+abbrev pub is_count : List ℕ → Bool
+is_count digits = nat_le 1 (length digits) && nat_le (length digits) 15 && not (slice_index digits 0 == 48)

@@ -1,0 +1,10 @@
+pub mod Bucket
+pub mod Count
+pub mod Day
+pub mod Instant
+pub mod Interval
+pub mod Laws
+pub mod Moment
+pub mod Printed
+pub mod Shape
+pub mod Unit
