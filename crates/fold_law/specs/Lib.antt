@@ -1,0 +1,5 @@
+pub mod Laws
+pub mod Gauges
+pub mod Rises
+pub mod Lasts
+pub mod Pairs
