@@ -1,0 +1,12 @@
+pub mod Dimensions
+pub mod Fitting
+pub mod Merging
+pub mod FitLaws
+pub mod JoinLaws
+pub mod Joining
+pub mod KeyLaws
+pub mod MergeLaws
+pub mod Order
+pub mod Samples
+pub mod WidenLaws
+pub mod Widening
