@@ -1,0 +1,5 @@
+use Rattle.column_pack.proofs.OneList.{one-list}
+use Rattle.column_pack.proofs.laws.one_list.Goals as goal
+
+pub returns : goal.returns
+returns c = one-list
