@@ -1,0 +1,6 @@
+pub mod Bytes
+pub mod Ids
+pub mod IdLaws
+pub mod Keys
+pub mod KeyedLaws
+pub mod Samples
