@@ -1,0 +1,13 @@
+use Rattle.std.proofs.Common.{◌≡◌, Err, subst, sym, ap}
+use Rattle.std.specs.Prelude.{IfOk, option_and_then}
+use Rattle.std.specs.Option.{option_map}
+use Rattle.bulk_json.specs.Actions.{asked_of, asked_in}
+use Rattle.bulk_json.proofs.action.read_action.Goals as goal
+
+pub returns-in-Ok : goal.returns-in-Ok
+unfolding asked_of
+returns-in-Ok c = subst (λ d. IfOk c.asked_in.result (λ found. found ≡ d)) (sym (ap (option_and_then (asked_in (option_map (λ s. s.now) c.args.path))) c.in-Ok.ensures.ok)) c.asked_in.ensures
+
+pub returns-in-Err-Bad : goal.returns-in-Err-Bad
+unfolding asked_of
+returns-in-Err-Bad c = sym (ap (option_and_then (asked_in (option_map (λ s. s.now) c.args.path))) (c.in-Err-Bad.ensures.bad (ap Err c.in-Err-Bad.field-0-is)))

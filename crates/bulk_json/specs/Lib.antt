@@ -1,0 +1,4 @@
+pub mod Actions
+pub mod Items
+pub mod Lines
+pub mod Names
