@@ -1,0 +1,6 @@
+pub mod Body
+pub mod Form
+pub mod Message
+pub mod Path
+pub mod Query
+pub mod Seen

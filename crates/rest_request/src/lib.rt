@@ -1,0 +1,12 @@
+//! Requests: what a method, a target and a body ask for.
+#![tactic(auto)]
+
+mod body;
+mod form;
+mod path;
+mod query;
+mod request;
+#[cfg(test)]
+mod tests;
+
+pub use request::{Request, RequestError, read_request};
