@@ -1,0 +1,31 @@
+//! Pieces of the store that are timed from outside, one for each case: `tsds_bench CASE SIZE`. What is printed is a sum over
+//! the answers, so that no work is left out.
+#![tactic(auto)]
+
+mod blocks;
+mod time_print;
+mod time_read;
+mod time_table;
+
+use anyhow::{Result, bail};
+use std::env;
+
+fn main(rt: HostRuntime) -> Result<()> {
+    let words: Vec<String> = env::args(&rt)?.collect(rt.alloc())?;
+    let (Some(case), Some(size)) = (words.get(1), words.get(2)) else {
+        bail!("the words are CASE SIZE");
+    };
+    let size: u64 = size.as_str().parse()?;
+    match case.as_str() {
+        "time_print" => time_print::run(&rt, size)?,
+        "time_read" => time_read::run(&rt, rt.alloc(), size)?,
+        "time_table" => time_table::run(&rt)?,
+        case => {
+            let Some(sum) = blocks::run(rt.alloc(), case, size)? else {
+                bail!("no such case");
+            };
+            println!(rt; "{case} {size} {sum}")?;
+        }
+    }
+    Ok(())
+}
