@@ -1,7 +1,7 @@
 #!/usr/bin/env bash
 # Runs the tests: those of each crate, and then comparisons from outside, which need Python and the built programs.
 # With GATE_PASSED=1 the crates' tests are left out, since the gate has just run them.
-set -u
+set -u -o pipefail
 cd "$(dirname "$0")/.." || exit 1
 failed=0
 if [ "${GATE_PASSED:-0}" != 1 ]; then
