@@ -18,7 +18,8 @@ use Rattle.fold_law.specs.declared.counters.Rise.{Rise}
 use Rattle.fold_law.specs.Gauges.{join_parts, join_present_parts, reach_of_parts, unsigned_abs-add, within_abs, abs_above}
 use Rattle.fold_law.specs.Rises.{climb_of, join_rises, join_present_rises, reach_of_rise, rise_of_value, unsigned_abs-climb_of}
 use Rattle.row_cells.specs.Dimensions.{Dimension, key_bytes}
-use Rattle.row_cells.specs.Fitting.{IsInstant, IsNumberOf, IsValueOf, PartsFit, IsAggregate, RiseFits, LabelFits, RawGaugeFits, FoldedGaugeFits, GaugeFits, PlainCounterFits, RisenCounterFits, CounterFits, CellFits, CellsFit, with_dimension, dimensions_of, Fits, folded_form, FitsEither}
+use Rattle.row_cells.specs.Fitting.{IsNumberOf, IsValueOf, PartsFit, IsAggregate, RiseFits, LabelFits, RawGaugeFits, FoldedGaugeFits, GaugeFits, PlainCounterFits, RisenCounterFits, CounterFits, CellFits, CellsFit, with_dimension, dimensions_of, Fits, folded_form, FitsEither}
+use Rattle.time_text.specs.Instant.{IsInstant}
 use Rattle.row_cells.specs.Merging.{parts_of_value, parts_of, cell_of_parts, rise_of, cell_of_rise, last_cell, merge_cell, fold_cell, merge_cells, fold_cells, merge_of_rows, fold_of_row, HaveRoom, AllHaveRoom}
 
 -- ---- numbers

@@ -15,10 +15,7 @@ use Rattle.row_cells.specs.declared.rows.Row.{Row}
 use Rattle.fold_law.specs.declared.measures.Parts.{Parts}
 use Rattle.fold_law.specs.declared.counters.Rise.{Rise}
 use Rattle.row_cells.specs.Dimensions.{Dimension, key_bytes, IsBefore}
-
--- an instant in milliseconds: from 1970 to the end of the year 9999
-abbrev pub IsInstant : ℤ → Type 0
-IsInstant t = (pos 0 ≤ℤ t) × (t ≤ℤ pos 253402300799999)
+use Rattle.time_text.specs.Instant.{IsInstant}
 
 -- a number in the range of a type; the parts of an aggregate have 64 bits
 abbrev pub IsNumberOf : FieldType → ℤ → Type 0

@@ -1,5 +1,6 @@
 pub mod Dimensions
 pub mod Fitting
+pub mod Mapped
 pub mod Merging
 pub mod FitLaws
 pub mod JoinLaws

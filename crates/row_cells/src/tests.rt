@@ -1,7 +1,8 @@
 //! Keys, rows and their folds on values from outside, with ample memory.
 ghost use Rattle.std.specs.Prelude.{◌≡◌, [], ◌∷◌, IfOk, true, false, ℤ, pos};
 ghost use Rattle.row_cells.specs.Samples.{sample_key, sample_schema};
-ghost use Rattle.row_cells.specs.Fitting.{Fits, IsInstant};
+ghost use Rattle.row_cells.specs.Fitting.{Fits};
+ghost use Rattle.time_text.specs.Instant.{IsInstant};
 
 use crate::copies::copy_row;
 use crate::folding::{merge_one, merge_rows};

@@ -10,7 +10,7 @@ use Rattle.base64.specs.GeneralPurpose.{decode_of}
 use Rattle.base64.specs.Engines.{url_safe_no_pad}
 use Rattle.base64.proofs.EngineFacts.{decode_of-encode_of}
 use Rattle.row_cells.specs.Dimensions.{IsKey}
-use Rattle.row_cells.specs.Fitting.{IsInstant}
+use Rattle.time_text.specs.Instant.{IsInstant}
 use Rattle.row_cells.specs.KeyLaws.{same_front, same_back}
 use Rattle.series_id.specs.Bytes.{AreBytes, bytes_at, bytes_joined, eight_bytes, key_is_bytes}
 use Rattle.series_id.specs.Ids.{base64url, id_bytes, id_of}

@@ -18,7 +18,7 @@ use Rattle.row_cells.specs.Dimensions.{Dimension, text_bytes, value_bytes, dimen
 use Rattle.row_cells.specs.Fitting.{CellFits, CellsFit, FieldsAscendAfter, IsNumberOf, IsValueOf, dimensions_of, with_dimension}
 use Rattle.row_cells.specs.JoinLaws.{ascend_lower}
 use Rattle.row_cells.specs.KeyLaws.{key_bytes_injective}
-use Rattle.series_id.specs.Keys.{IsPath, ArePaths, IsDimensionAt, AreDimensionsAt, IsMapped, AreCellsOf, is_present, any_present, is_routed, series_bytes}
+use Rattle.row_cells.specs.Mapped.{IsPath, ArePaths, IsDimensionAt, AreDimensionsAt, IsMapped, AreCellsOf, is_present, any_present, is_routed, series_bytes}
 
 -- a value of a type is one that a key can spell
 pub number_fits : (kind : FieldType) (v : ℤ) → IsNumberOf kind v → FitsSigned w64 v

@@ -6,7 +6,7 @@ use Rattle.row_cells.specs.declared.schemas.FieldType.TheVariants.{Boolean, Keyw
 use Rattle.row_cells.specs.declared.schemas.Role.TheVariants.{Dimension}
 use Rattle.row_cells.specs.declared.schemas.Field.{Field}
 use Rattle.row_cells.specs.declared.schemas.Schema.{Schema}
-use Rattle.series_id.specs.Keys.{IsMapped}
+use Rattle.row_cells.specs.Mapped.{IsMapped}
 
 abbrev pub flag_field : Field
 flag_field = record { path = codes "flag"; kind = Boolean; role = Dimension }

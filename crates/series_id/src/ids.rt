@@ -1,7 +1,7 @@
 //! Ids of documents.
 ghost use Rattle.std.specs.Prelude.{◌≡◌, ℕ, ℤ, List, IfOk, IfSome, IsNone, IsSomeAnd};
 ghost use Rattle.row_cells.specs.Dimensions.{IsKey};
-ghost use Rattle.row_cells.specs.Fitting.{IsInstant};
+ghost use Rattle.time_text.specs.Instant.{IsInstant};
 ghost use Rattle.series_id.specs.Ids.{id_bytes, id_of};
 ghost use Rattle.series_id.specs.IdLaws.{SameDocument};
 

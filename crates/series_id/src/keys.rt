@@ -5,7 +5,8 @@ ghost use Rattle.row_cells.specs.Dimensions.{IsKey};
 ghost use Rattle.row_cells.specs.Fitting.{dimensions_of};
 ghost use Rattle.row_cells.specs.declared.rows.Cell.{Cell};
 ghost use Rattle.row_cells.specs.declared.schemas.Schema.{Schema};
-ghost use Rattle.series_id.specs.Keys.{AreCellsOf, HaveKey, IsKeyFault, IsMapped, any_present, is_present, series_bytes};
+ghost use Rattle.row_cells.specs.Mapped.{AreCellsOf, HaveKey, IsMapped, any_present, is_present, series_bytes};
+ghost use Rattle.series_id.specs.Keys.{IsKeyFault};
 
 use crate::spelling::spell;
 use edge_face::Bytes;

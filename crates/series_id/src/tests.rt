@@ -1,7 +1,7 @@
 //! Keys and ids of values from outside, with ample memory.
 ghost use Rattle.std.specs.Prelude.{◌≡◌, ◌≤◌, IfOk, length};
 ghost use Rattle.row_cells.specs.Fitting.{DimensionFits};
-ghost use Rattle.series_id.specs.Keys.{AreCellsOf, IsMapped};
+ghost use Rattle.row_cells.specs.Mapped.{AreCellsOf, IsMapped};
 ghost use Rattle.series_id.specs.Samples.{sample_schema};
 
 use crate::ids::{id_text, read_id};

@@ -1,5 +1,5 @@
 -- The shard that a series goes to.
-use Rattle.std.specs.Prelude.{ℕ, suc, ◌*◌, ◌%◌, ◌^◌, ◌<◌, ◌≤◌, ◌||◌, Bool, true, false, List, [], ◌∷◌, Option, Some, None, bit_xor}
+use Rattle.std.specs.Prelude.{ℕ, ◌*◌, ◌%◌, ◌^◌, ◌||◌, Bool, true, false, List, [], ◌∷◌, Option, Some, None, bit_xor}
 use Rattle.std.specs.List.{slice_get}
 use Rattle.std.specs.Cmp.Lexicographic.{slice_cmp}
 use Rattle.std.specs.Ordering.{nat_cmp}
@@ -53,12 +53,3 @@ routing_hash paths ds = fnv1a (key_bytes (routing_part paths ds))
 -- the shard of a series of these dimensions
 abbrev pub shard_with : Schema → List Dimension → ℕ → ℕ
 shard_with schema ds shards = routing_hash (routing_paths schema.fields schema.routing) ds % shards
-
--- places from the least on, which ascend strictly and are below the count
-abbrev pub PlacesAscendFrom : ℕ → ℕ → List ℕ → Type 0
-PlacesAscendFrom least count [] = Unit {0}
-PlacesAscendFrom least count (place ∷ places) = (least ≤ place) × (place < count) × PlacesAscendFrom (suc place) count places
-
--- places of so many fields, which ascend strictly
-abbrev pub PlacesAscend : ℕ → List ℕ → Type 0
-PlacesAscend count places = PlacesAscendFrom 0 count places

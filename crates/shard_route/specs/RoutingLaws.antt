@@ -10,7 +10,8 @@ use Rattle.row_cells.specs.declared.schemas.Field.{Field}
 use Rattle.row_cells.specs.Dimensions.{Dimension, dimension_bytes, key_bytes, IsBefore, AreDimensions, AreDimensionsAfter}
 use Rattle.row_cells.specs.Fitting.{FieldsAscend, FieldsAscendAfter}
 use Rattle.row_cells.specs.JoinLaws.{before_chain, after_is, before_of_after}
-use Rattle.shard_route.specs.Routing.{path_of, routing_paths, is_equal, is_among, kept, routing_part, fnv_from, routing_hash, PlacesAscendFrom, PlacesAscend}
+use Rattle.shard_route.specs.Routing.{path_of, routing_paths, is_equal, is_among, kept, routing_part, fnv_from, routing_hash}
+use Rattle.row_cells.specs.Mapped.{PlacesAscendFrom, PlacesAscend}
 
 -- paths that ascend strictly, all of them after the path `below`
 abbrev pub AscendAfter : List ℕ → List (List ℕ) → Type 0

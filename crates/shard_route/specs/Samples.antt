@@ -6,7 +6,7 @@ use Rattle.row_cells.specs.declared.schemas.Role.TheVariants.{Dimension}
 use Rattle.row_cells.specs.declared.schemas.Field.{Field}
 use Rattle.row_cells.specs.declared.schemas.Schema.{Schema}
 use Rattle.row_cells.specs.Fitting.{FieldsAscend}
-use Rattle.shard_route.specs.Routing.{PlacesAscend}
+use Rattle.row_cells.specs.Mapped.{PlacesAscend}
 
 abbrev pub host_field : Field
 host_field = record { path = codes "host"; kind = Keyword; role = Dimension }

@@ -2,7 +2,8 @@
 ghost use Rattle.std.specs.Prelude.{◌≡◌, ◌<◌, ◌≤◌, List, length};
 ghost use Rattle.row_cells.specs.Dimensions.{AreDimensions, Dimension, IsKey, key_bytes};
 ghost use Rattle.row_cells.specs.Fitting.{FieldsAscend};
-ghost use Rattle.shard_route.specs.Routing.{PlacesAscend, shard_with};
+ghost use Rattle.shard_route.specs.Routing.{shard_with};
+ghost use Rattle.row_cells.specs.Mapped.{PlacesAscend};
 
 use crate::routing::routing_hash;
 use row_cells::{Key, Schema};

@@ -1,5 +1,5 @@
 use Rattle.std.proofs.Common.{◌≡◌, drop}
-use Rattle.series_id.specs.Keys.{any_present}
+use Rattle.row_cells.specs.Mapped.{any_present}
 use Rattle.series_id.proofs.keys.is_any_present.Given as goal
 
 abbrev pub invariant-loop-place : goal.invariant-loop-place

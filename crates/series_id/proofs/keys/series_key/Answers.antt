@@ -1,7 +1,7 @@
 use Rattle.std.proofs.Common.{◌≡◌, ◌≤◌, ◌∙◌, sym, ap, subst, rules, length, true}
 use Rattle.row_cells.specs.Dimensions.{IsKey, key_bytes}
 use Rattle.row_cells.specs.Fitting.{dimensions_of}
-use Rattle.series_id.specs.Keys.{is_routed, series_bytes}
+use Rattle.row_cells.specs.Mapped.{is_routed, series_bytes}
 use Rattle.series_id.specs.KeyedLaws.{cells_spellable, series_is_key}
 use Rattle.series_id.proofs.keys.series_key.Goals as goal
 

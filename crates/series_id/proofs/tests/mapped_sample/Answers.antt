@@ -1,5 +1,5 @@
 use Rattle.std.proofs.Common.{sym, subst}
-use Rattle.series_id.specs.Keys.{IsMapped}
+use Rattle.row_cells.specs.Mapped.{IsMapped}
 use Rattle.series_id.specs.Samples.{sample_mapped}
 use Rattle.series_id.proofs.tests.mapped_sample.Goals as goal
 
