@@ -1,4 +1,5 @@
 pub mod Dimensions
+pub mod Each
 pub mod Fitting
 pub mod Mapped
 pub mod Merging
@@ -8,6 +9,7 @@ pub mod Joining
 pub mod KeyLaws
 pub mod MergeLaws
 pub mod Order
+pub mod RowLists
 pub mod Samples
 pub mod WidenLaws
 pub mod Widening
