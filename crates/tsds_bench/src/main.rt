@@ -3,6 +3,7 @@
 #![tactic(auto)]
 
 mod blocks;
+mod fold_rows;
 mod time_print;
 mod time_read;
 mod time_table;
@@ -17,6 +18,10 @@ fn main(rt: HostRuntime) -> Result<()> {
     };
     let size: u64 = size.as_str().parse()?;
     match case.as_str() {
+        "fold-rows" | "fold-once" | "fold-often" => {
+            let sum = fold_rows::run(rt.alloc(), &case.as_str()[5..], size)?;
+            println!(rt; "{case} {size} {sum}")?;
+        }
         "time_print" => time_print::run(&rt, size)?,
         "time_read" => time_read::run(&rt, rt.alloc(), size)?,
         "time_table" => time_table::run(&rt)?,

@@ -1,0 +1,3 @@
+pub mod ColumnSteps
+pub mod FieldSteps
+pub mod RunSteps

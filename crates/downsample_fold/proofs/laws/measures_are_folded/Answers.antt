@@ -1,0 +1,11 @@
+use Rattle.downsample_fold.specs.Measures.{counts_are_folded, gauges_are_folded, rises_are_folded}
+use Rattle.downsample_fold.proofs.laws.measures_are_folded.Goals as goal
+
+pub returns-clause-counts : goal.returns-clause-counts
+returns-clause-counts c = counts_are_folded
+
+pub returns-clause-gauges : goal.returns-clause-gauges
+returns-clause-gauges c = gauges_are_folded
+
+pub returns-clause-rises : goal.returns-clause-rises
+returns-clause-rises c = rises_are_folded

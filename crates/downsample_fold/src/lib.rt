@@ -1,0 +1,17 @@
+//! The direct fold of rows into buckets of time, and that folding in rounds is folding once.
+#![tactic(auto)]
+
+mod columns;
+mod folding;
+mod intervals;
+mod laws;
+mod runs;
+#[cfg(test)]
+mod tests;
+
+pub use folding::{fold_all, fold_series};
+pub use intervals::{IntervalError, check_interval};
+pub use laws::{
+    fold_of_some_series, folds_compose, folds_in_any_order, folds_join_series, folds_keep_rows,
+    folds_keep_totals, measures_are_folded,
+};
