@@ -1,0 +1,9 @@
+pub mod Digits
+pub mod LeastLemmas
+pub mod Nothing
+pub mod Placing
+pub mod Refusals
+pub mod SchemaLemmas
+pub mod Sets
+pub mod Sound
+pub mod SortedLemmas

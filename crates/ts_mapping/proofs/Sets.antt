@@ -1,0 +1,230 @@
+-- Sets of paths, and tests that only ask which paths are among some.
+use Rattle.std.proofs.Common.{◌≡◌, ◌<◌, ◌+◌, ℕ, zero, suc, List, [], ◌∷◌, ◌++◌, Bool, true, false, ◌||◌, ◌&&◌, ◌==◌, not, bytes_eq, Ordering, Less, Equal, Greater, map, take, drop, length, get_or, add-one, drop-cons, Option, Some, None, if◌then◌else◌, nat_le, refl, sym, ap, ap₂, ◌∙◌, arith, subst}
+use Rattle.std.specs.Prelude.{Vec}
+use Rattle.std.specs.declared.alloc.Global.{Global}
+use Rattle.std.specs.BTreeMap.{is_at}
+use Rattle.std.specs.BTreeSet.{insert_key}
+use Rattle.std.specs.Cmp.Lexicographic.{slice_cmp}
+use Rattle.std.specs.List.{list_any}
+use Rattle.std.specs.Ordering.{nat_cmp, match_ordering, is_eq}
+use Rattle.std.proofs.lemmas.Map.Text.{is_eq-slice_cmp}
+use Rattle.std.proofs.lemmas.Slice.Eq.{bytes_eq-Decides}
+use Rattle.std.proofs.lemmas.Bool.{eq-eqb, eqb-true}
+use Rattle.row_cells.specs.declared.schemas.Field.{Field}
+use Rattle.ts_mapping.specs.Faults.{bad_entries, below_fault, clash_faults, entry_faults, repeated}
+use Rattle.ts_mapping.specs.Fields.{is_dimension_role, paths_of, routing_from}
+use Rattle.ts_mapping.specs.Least.{all_faults, fault_unless, least, least_with}
+use Rattle.ts_mapping.proofs.LeastLemmas.{least_with_append}
+use Rattle.ts_mapping.specs.Paths.{is_among, is_below, timestamp}
+use Rattle.ts_mapping.specs.Properties.{Property}
+
+-- ---- the keys of a set
+
+abbrev order : Vec ℕ Global → Vec ℕ Global → Ordering
+order a b = slice_cmp nat_cmp a.items b.items
+
+abbrev pub paths_in : List (Vec ℕ Global) → List (List ℕ)
+paths_in = map (λ k. k.items)
+
+pub has_key : (q : List ℕ) (ks : List (Vec ℕ Global)) → list_any (is_at (λ k. slice_cmp nat_cmp q k.items)) ks ≡ is_among q (paths_in ks)
+has_key q [] = refl
+has_key q (k ∷ ks) = ap₂ (λ a b. a || b) (is_eq-slice_cmp q k.items) (has_key q ks)
+
+pub twice : (a b : Bool) → (a || b) ≡ (a || (a || b))
+twice true b = refl
+twice false b = refl
+
+pub swap : (a b c : Bool) → (a || (b || c)) ≡ (b || (a || c))
+swap true true c = refl
+swap true false c = refl
+swap false true c = refl
+swap false false c = refl
+
+same_bytes : (x y : List ℕ) → slice_cmp nat_cmp x y ≡ Equal → x ≡ y
+same_bytes x y is = (bytes_eq-Decides x y).0 (sym (is_eq-slice_cmp x y) ∙ ap is_eq is)
+
+has_placed : (q : List ℕ) (k x : Vec ℕ Global) (xs : List (Vec ℕ Global)) (o : Ordering) → order k x ≡ o
+    → is_among q (paths_in (insert_key order xs k)) ≡ bytes_eq q k.items || is_among q (paths_in xs)
+    → is_among q (paths_in (match_ordering o (k ∷ x ∷ xs) (x ∷ xs) (x ∷ insert_key order xs k))) ≡ bytes_eq q k.items || is_among q (paths_in (x ∷ xs))
+has_placed q k x xs Less is later = refl
+has_placed q k x xs Equal is later =
+    let same : k.items ≡ x.items = same_bytes k.items x.items is in
+    rw same (twice (bytes_eq q x.items) (is_among q (paths_in xs)))
+has_placed q k x xs Greater is later =
+    ap (λ b. bytes_eq q x.items || b) later ∙ swap (bytes_eq q x.items) (bytes_eq q k.items) (is_among q (paths_in xs))
+
+-- what is among the paths after one is put to them
+pub has_inserted : (q : List ℕ) (k : Vec ℕ Global) (ks : List (Vec ℕ Global)) → is_among q (paths_in (insert_key order ks k)) ≡ bytes_eq q k.items || is_among q (paths_in ks)
+has_inserted q k [] = refl
+has_inserted q k (x ∷ xs) = has_placed q k x xs _ refl (has_inserted q k xs)
+
+-- ---- paths below others
+
+and_true : (a b : Bool) → a ≡ true → b ≡ true → (a && b) ≡ true
+and_true a b p q = rw (p, q) refl
+
+pub first_true : (a b : Bool) → (a && b) ≡ true → a ≡ true
+first_true true b h = refl
+first_true false b h = h
+
+pub second_true : (a b : Bool) → (a && b) ≡ true → b ≡ true
+second_true true b h = h
+second_true false b h = cc
+
+first_false : (a b : Bool) → (a || b) ≡ false → a ≡ false
+first_false true b h = h
+first_false false b h = refl
+
+second_false : (a b : Bool) → (a || b) ≡ false → b ≡ false
+second_false true b h = cc
+second_false false b h = h
+
+not_both : (b : Bool) → b ≡ true → b ≡ false → ⊥
+not_both b t f = cc
+
+-- p lies below what stands before a dot in it
+below_front : (p : List ℕ) (i : ℕ) → i < length p → get_or p i 0 ≡ 46 → is_below p (take i p) ≡ true
+below_front [] i lt dot = absurd (omega (arith, lt))
+below_front (b ∷ p) zero lt dot = eq-eqb b 46 dot
+below_front (b ∷ p) (suc i) lt dot = and_true (b == b) (is_below p (take i p)) (eq-eqb b b refl) (below_front p i (omega (arith, lt)) dot)
+
+-- what p lies below stands in it before a dot
+record IsFront (p q : List ℕ) : Type 0 where
+  short : length q < length p
+  dot : get_or p (length q) 0 ≡ 46
+  front : take (length q) p ≡ q
+
+front_of_below : (p q : List ℕ) → is_below p q ≡ true → IsFront p q
+front_of_below [] q h = cc
+front_of_below (b ∷ p) [] h = record { short = omega arith; dot = eqb-true b 46 h; front = refl }
+front_of_below (b ∷ p) (c ∷ q) h =
+    let later = front_of_below p q (second_true (b == c) (is_below p q) h) in
+    let same : b ≡ c = eqb-true b c (first_true (b == c) (is_below p q) h) in
+    record { short = omega (arith, later.short); dot = later.dot; front = rw (same, later.front) refl }
+
+pub or_second : (a b : Bool) → b ≡ true → (a || b) ≡ true
+or_second true b h = refl
+or_second false b h = h
+
+pub itself : (p : List ℕ) → bytes_eq p p ≡ true
+itself p = (bytes_eq-Decides p p).1 refl
+
+pub exact : (p q : List ℕ) → bytes_eq p q ≡ true → p ≡ q
+exact p q h = (bytes_eq-Decides p q).0 h
+
+-- a test that one of some paths passes
+pub in_any : (f : List ℕ → Bool) (q : List ℕ) (ps : List (List ℕ)) → is_among q ps ≡ true → f q ≡ true → list_any f ps ≡ true
+in_any f q [] is pass = cc
+in_any f q (p ∷ ps) is pass = go (bytes_eq q p) refl is (in_any f q ps)
+  where
+    go : (v : Bool) → bytes_eq q p ≡ v → (v || is_among q ps) ≡ true → (is_among q ps ≡ true → f q ≡ true → list_any f ps ≡ true) → (f p || list_any f ps) ≡ true
+    go true same h later = let one : f p ≡ true = subst (λ r. f r ≡ true) (exact q p same) pass in rw one refl
+    go false same h later = or_second (f p) (list_any f ps) (later h pass)
+
+record Passes (f : List ℕ → Bool) (ps : List (List ℕ)) : Type 0 where
+  path : List ℕ
+  among : is_among path ps ≡ true
+  pass : f path ≡ true
+
+any_in : (f : List ℕ → Bool) (ps : List (List ℕ)) → list_any f ps ≡ true → Passes f ps
+any_in f [] h = cc
+any_in f (p ∷ ps) h = go (f p) refl h (any_in f ps)
+  where
+    go : (v : Bool) → f p ≡ v → (v || list_any f ps) ≡ true → (list_any f ps ≡ true → Passes f ps) → Passes f (p ∷ ps)
+    go true is h later = record { path = p; among = rw (itself p) refl; pass = is }
+    go false is h later =
+        let one = later h in
+        record { path = one.path; among = or_second (bytes_eq one.path p) (is_among one.path ps) one.among; pass = one.pass }
+
+-- two lists with the same paths
+abbrev pub SamePaths : List (List ℕ) → List (List ℕ) → Type 0
+SamePaths ps qs = (q : List ℕ) → is_among q ps ≡ is_among q qs
+
+-- pass a test alike
+pub any_same : (f : List ℕ → Bool) (ps qs : List (List ℕ)) → SamePaths ps qs → list_any f ps ≡ list_any f qs
+any_same f ps qs same = go (list_any f ps) (list_any f qs) refl refl
+  where
+    go : (a b : Bool) → list_any f ps ≡ a → list_any f qs ≡ b → list_any f ps ≡ list_any f qs
+    go true true p q = p ∙ sym q
+    go false false p q = p ∙ sym q
+    go true false p q = let one = any_in f ps p in absurd (not_both (list_any f qs) (in_any f one.path qs (sym (same one.path) ∙ one.among) one.pass) q)
+    go false true p q = let one = any_in f qs q in absurd (not_both (list_any f ps) (in_any f one.path ps (same one.path ∙ one.among) one.pass) p)
+
+-- a front before a dot that is among some paths lies above
+pub some_below : (p : List ℕ) (i : ℕ) (ps : List (List ℕ)) → i < length p → get_or p i 0 ≡ 46 → is_among (take i p) ps ≡ true → list_any (is_below p) ps ≡ true
+some_below p i ps lt dot is = in_any (is_below p) (take i p) ps is (below_front p i lt dot)
+
+-- and where no such front is among them, nothing does
+pub none_below : (p : List ℕ) (ps : List (List ℕ)) → ((k : ℕ) → k < length p → get_or p k 0 ≡ 46 → is_among (take k p) ps ≡ false) → list_any (is_below p) ps ≡ false
+none_below p ps none = go (list_any (is_below p) ps) refl
+  where
+    go : (v : Bool) → list_any (is_below p) ps ≡ v → list_any (is_below p) ps ≡ false
+    go false is = is
+    go true is =
+        let one = any_in (is_below p) ps is in
+        let front = front_of_below p one.path one.pass in
+        absurd (not_both (is_among one.path ps) one.among (subst (λ q. is_among q ps ≡ false) front.front (none (length one.path) front.short front.dot)))
+
+-- ---- looks that only ask which paths stand before
+
+pub same_more : (p : List ℕ) (ps qs : List (List ℕ)) → SamePaths ps qs → SamePaths (p ∷ ps) (p ∷ qs)
+same_more p ps qs same q = ap (λ b. bytes_eq q p || b) (same q)
+
+pub repeated_same : (before after : List (List ℕ)) → SamePaths before after → (ps : List (List ℕ)) → repeated before ps ≡ repeated after ps
+repeated_same before after same [] = refl
+repeated_same before after same (p ∷ ps) =
+    ap₂ (λ b rest. fault_unless (not b) p ++ rest) (same p) (repeated_same (p ∷ before) (p ∷ after) (same_more p before after same) ps)
+
+pub entries_same : (dimensions dims before after : List (List ℕ)) → SamePaths dimensions dims → SamePaths before after → (es : List (List ℕ)) → bad_entries dimensions before es ≡ bad_entries dims after es
+entries_same dimensions dims before after some same [] = refl
+entries_same dimensions dims before after some same (e ∷ es) =
+    ap₂ (λ b rest. fault_unless b e ++ rest) (ap₂ (λ a b. a && not b) (some e) (same e)) (entries_same dimensions dims (e ∷ before) (e ∷ after) some (same_more e before after same) es)
+
+-- one path further
+pub repeated_step : (p : List ℕ) (before after rest : List (List ℕ)) (held next : Option (List ℕ)) → SamePaths after (p ∷ before) → next ≡ least_with held (fault_unless (not (is_among p before)) p) → least_with next (repeated after rest) ≡ least_with held (repeated before (p ∷ rest))
+repeated_step p before after rest held next same ok =
+    rw (repeated_same after (p ∷ before) same rest, ok, least_with_append) refl
+
+pub entries_step : (dimensions : List (List ℕ)) (e : List ℕ) (before after rest : List (List ℕ)) (held next : Option (List ℕ)) → SamePaths after (e ∷ before) → next ≡ least_with held (fault_unless (is_among e dimensions && not (is_among e before)) e) → least_with next (bad_entries dimensions after rest) ≡ least_with held (bad_entries dimensions before (e ∷ rest))
+entries_step dimensions e before after rest held next same ok =
+    rw (entries_same dimensions dimensions after (e ∷ before) (λ q. refl) same rest, ok, least_with_append) refl
+
+or_next : (a b c : Bool) → ((a || b) || c) ≡ (b || (a || c))
+or_next true true c = refl
+or_next true false c = refl
+or_next false true c = refl
+or_next false false c = refl
+
+pub among_step : (q p : List ℕ) (before after rest : List (List ℕ)) → is_among q after ≡ is_among q (p ∷ before) → (is_among q after || is_among q rest) ≡ (is_among q before || is_among q (p ∷ rest))
+among_step q p before after rest same = rw same (or_next (bytes_eq q p) (is_among q before) (is_among q rest))
+
+-- what is left of a list begins with the element at hand
+pub drop_here : {S : Type 0} (xs : List S) (i : ℕ) (x : S) → i < length xs → x ≡ get_or xs i x → drop i xs ≡ x ∷ drop (i + 1) xs
+drop_here xs i x lt is = rw (add-one, drop-cons xs i x, ← is) refl
+
+pub below_same : (before after : List (List ℕ)) → SamePaths before after → (ps : List (List ℕ)) → all_faults (below_fault before) ps ≡ all_faults (below_fault after) ps
+below_same before after same [] = refl
+below_same before after same (p ∷ ps) = ap₂ (λ b rest. fault_unless (not b) p ++ rest) (any_same (is_below p) before after same) (below_same before after same ps)
+
+pub routing_same : (ps qs : List (List ℕ)) → SamePaths ps qs → (place : ℕ) (fs : List Field) → routing_from (Some ps) place fs ≡ routing_from (Some qs) place fs
+routing_same ps qs same place [] = refl
+routing_same ps qs same place (f ∷ fs) =
+    ap₂ (λ b rest. (if is_dimension_role f.role && b then place ∷ [] else []) ++ rest) (same f.path) (routing_same ps qs same (suc place) fs)
+
+-- ---- whole looks
+
+pub clash_is : (ps : List Property) (before set : List (List ℕ)) (held found : Option (List ℕ)) → held ≡ least_with None (repeated [] (paths_of ps)) → found ≡ least_with held (all_faults (below_fault set) (paths_of ps)) → SamePaths set (timestamp ∷ before) → SamePaths before (paths_of ps) → found ≡ least (clash_faults ps)
+unfolding clash_faults
+clash_is ps before set held found first second put all =
+    let qs = paths_of ps in
+    let same : SamePaths set (timestamp ∷ qs) = λ q. put q ∙ ap (λ b. bytes_eq q timestamp || b) (all q) in
+    second ∙ (ap (λ h. least_with h (all_faults (below_fault set) qs)) first
+    ∙ (ap (least_with (least_with None (repeated [] qs))) (below_same set (timestamp ∷ qs) same qs)
+    ∙ sym (least_with_append None (repeated [] qs) (all_faults (below_fault (timestamp ∷ qs)) qs))))
+
+pub entries_are : (dimensions set es : List (List ℕ)) (held found : Option (List ℕ)) → held ≡ least_with None (fault_unless (nat_le 1 (length es)) []) → found ≡ least_with held (bad_entries set [] es) → SamePaths set dimensions → found ≡ least (entry_faults dimensions (Some es))
+entries_are dimensions set es held found first second same =
+    let none = fault_unless (nat_le 1 (length es)) [] in
+    second ∙ (ap (λ h. least_with h (bad_entries set [] es)) first
+    ∙ (ap (least_with (least_with None none)) (entries_same set dimensions [] [] same (λ q. refl) es)
+    ∙ sym (least_with_append None none (bad_entries dimensions [] es))))

@@ -1,0 +1,17 @@
+pub mod Faults
+pub mod Fields
+pub mod Least
+pub mod LeastLaws
+pub mod Looks
+pub mod Outcomes
+pub mod Paths
+pub mod Properties
+pub mod Readings
+pub mod Roles
+pub mod Schemas
+pub mod Seen
+pub mod Settings
+pub mod Shapes
+pub mod Sorted
+pub mod Templates
+pub mod Trees

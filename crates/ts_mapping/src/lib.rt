@@ -1,0 +1,30 @@
+//! Templates of indices, and what the leaves of a document are at their fields.
+#![tactic(auto)]
+
+mod body;
+mod clashes;
+mod faults;
+mod fields;
+mod gathering;
+mod kinds;
+mod laws;
+mod least;
+mod looks;
+mod making;
+mod numbers;
+mod path_set;
+mod paths;
+mod properties;
+mod readings;
+mod routing;
+mod settings;
+mod shapes;
+mod templates;
+#[cfg(test)]
+mod tests;
+mod trees;
+
+pub use kinds::MapKind;
+pub use laws::least_is_least;
+pub use readings::{read_aggregate, read_scalar};
+pub use templates::{MapError, Mapping, Template, read_template};

@@ -1,0 +1,151 @@
+//! What a leaf of a document is at a field of each type.
+ghost use Rattle.std.specs.Prelude.{◌≡◌, ◌≢◌, ◌≤◌, length, IfOk, IfSome, option_map, IsUtf8};
+ghost use Rattle.std.specs.Fmt.{signed_decimal};
+ghost use Rattle.serde_json.specs.Find.{as_integer};
+ghost use Rattle.serde_json.specs.View.{number_view, view};
+ghost use Rattle.row_cells.specs.Fitting.{IsAggregate, IsValueOf};
+ghost use Rattle.time_text.specs.Instant.{IsInstant, in_range as in_instants};
+ghost use Rattle.ts_mapping.specs.Readings as spec;
+ghost use Rattle.ts_mapping.specs.Readings.{aggregate_of, reading_of};
+ghost use Rattle.row_cells.specs.declared.schemas.FieldType.TheVariants.{Aggregate};
+
+use crate::numbers::number_of;
+use edge_face::{NoMemory, Text};
+use fold_law::Parts;
+use itoa::Buffer;
+use json_walk::{has_names, whole};
+use row_cells::{FieldType, Scalar};
+use serde_json::{Number, Value};
+use std::alloc::Global;
+use time_text::read_instant;
+
+/// The most bytes that a keyword has.
+const KEYWORD_LIMIT: usize = 32_766;
+
+/// The last instant, at the end of the year 9999.
+const LAST_INSTANT: i64 = 253_402_300_799_999;
+
+fn date_of(leaf: &Value) -> Option<i64>
+    ensures value { result ≡ spec.date_of (view leaf.now) }
+    ensures fits { IfSome result IsInstant }
+{
+    match leaf {
+        Value::Number(number) => in_range(number.as_i64()?),
+        Value::String(text) => read_instant(text.as_str()).ok(),
+        _ => None,
+    }
+}
+
+fn in_range(time: i64) -> Option<i64>
+    ensures value { result ≡ in_instants time }
+    ensures fits { IfSome result IsInstant }
+{
+    if 0 <= time && time <= LAST_INSTANT {
+        Some(time)
+    } else {
+        None
+    }
+}
+
+fn flag_text(flag: bool) -> &'static str
+    ensures { result.now ≡ spec.flag_text flag }
+{
+    if flag { "true" } else { "false" }
+}
+
+fn number_text(alloc: Global, number: &Number) -> Result<Option<Text>, NoMemory>
+    ensures value { IfOk result (λ read. read ≡ option_map signed_decimal (as_integer (number_view number.now))) }
+    ensures fits { IfOk result (λ read. IfSome read (λ t. IsUtf8 t × (length t ≤ 32766))) }
+{
+    let mut buffer = Buffer::new();
+    if let Some(natural) = number.as_u64() {
+        return Ok(Some(Text::new(alloc, buffer.format(natural))?));
+    }
+    match number.as_i64() {
+        Some(negative) => Ok(Some(Text::new(alloc, buffer.format(negative))?)),
+        None => Ok(None),
+    }
+}
+
+/// The keyword that a leaf writes.
+fn keyword_of(alloc: Global, leaf: &Value) -> Result<Option<Text>, NoMemory>
+    ensures value { IfOk result (λ read. read ≡ spec.keyword_of (view leaf.now)) }
+    ensures fits { IfOk result (λ read. IfSome read (λ t. IsUtf8 t × (length t ≤ 32766))) }
+{
+    match leaf {
+        Value::Bool(flag) => Ok(Some(Text::new(alloc, flag_text(*flag))?)),
+        Value::Number(number) => number_text(alloc, number),
+        Value::String(text) if text.len() <= KEYWORD_LIMIT => {
+            Ok(Some(Text::new(alloc, text.as_str())?))
+        }
+        _ => Ok(None),
+    }
+}
+
+fn named_flag(text: &str) -> Option<bool>
+    ensures { result ≡ spec.named_flag text.now }
+{
+    if text == "true" {
+        Some(true)
+    } else if text == "false" || text == "" {
+        Some(false)
+    } else {
+        None
+    }
+}
+
+fn flag_of(leaf: &Value) -> Option<bool>
+    ensures { result ≡ spec.flag_of (view leaf.now) }
+{
+    match leaf {
+        Value::Bool(flag) => Some(*flag),
+        Value::String(text) => named_flag(text.as_str()),
+        _ => None,
+    }
+}
+
+/// The reading of a leaf at a field of a type, or None where it has none.
+///
+/// Numbers are JSON whole numbers of signed 64 bits in the type's range, or texts of them with up to 19 digits. A keyword is a
+/// text of at most 32,766 bytes, or the text of a whole number of 64 bits, signed or not, or of a truth value. A date is an
+/// instant's text or its milliseconds since 1970. A truth value may be a text, of which the empty one is false.
+pub fn read_scalar(alloc: Global, kind: FieldType, leaf: &Value) -> Result<Option<Scalar>, NoMemory>
+    requires { kind ≢ Aggregate }
+    ensures value { IfOk result (λ read. read ≡ reading_of kind (view leaf.now)) }
+    ensures fits { IfOk result (λ read. IfSome read (IsValueOf kind)) }
+{
+    match kind {
+        FieldType::Keyword => Ok(keyword_of(alloc, leaf)?.map(Scalar::Word)),
+        FieldType::Boolean => Ok(flag_of(leaf).map(Scalar::Flag)),
+        FieldType::Date => Ok(date_of(leaf).map(Scalar::Whole)),
+        FieldType::Long
+        | FieldType::Integer
+        | FieldType::Short
+        | FieldType::Byte
+        | FieldType::Aggregate => Ok(number_of(kind, leaf).map(Scalar::Whole)),
+    }
+}
+
+/// The parts of an aggregate's leaf, or None where it has no reading: an object with exactly `max`, `min`, `sum` and
+/// `value_count`, each a JSON whole number of signed 64 bits, and a value count of at least 1.
+pub fn read_aggregate(leaf: &Value) -> Option<Parts>
+    ensures value { result ≡ aggregate_of (view leaf.now) }
+    ensures fits { IfSome result IsAggregate }
+{
+    if !has_names(leaf, &["max", "min", "sum", "value_count"]) {
+        return None;
+    }
+    let min = leaf.get("min").and_then(Value::as_i64)?;
+    let max = leaf.get("max").and_then(Value::as_i64)?;
+    let sum = leaf.get("sum").and_then(Value::as_i64)?;
+    let count = leaf.get("value_count").and_then(Value::as_i64)?;
+    if count < 1 {
+        return None;
+    }
+    Some(Parts {
+        min,
+        max,
+        sum: i128::from(sum),
+        count: i128::from(count),
+    })
+}
