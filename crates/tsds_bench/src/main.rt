@@ -4,6 +4,7 @@
 
 mod blocks;
 mod fold_rows;
+mod templates;
 mod time_print;
 mod time_read;
 mod time_table;
@@ -20,6 +21,11 @@ fn main(rt: HostRuntime) -> Result<()> {
     match case.as_str() {
         "fold-rows" | "fold-once" | "fold-often" => {
             let sum = fold_rows::run(rt.alloc(), &case.as_str()[5..], size)?;
+            println!(rt; "{case} {size} {sum}")?;
+        }
+        "template-250" | "template-500" | "template-1000" => {
+            let fields: u64 = case.as_str()[9..].parse()?;
+            let sum = templates::run(rt.alloc(), fields, size)?;
             println!(rt; "{case} {size} {sum}")?;
         }
         "time_print" => time_print::run(&rt, size)?,
