@@ -3,6 +3,7 @@
 #![tactic(auto)]
 
 mod blocks;
+mod documents;
 mod fold_rows;
 mod templates;
 mod time_print;
@@ -26,6 +27,15 @@ fn main(rt: HostRuntime) -> Result<()> {
         "template-250" | "template-500" | "template-1000" => {
             let fields: u64 = case.as_str()[9..].parse()?;
             let sum = templates::run(rt.alloc(), fields, size)?;
+            println!(rt; "{case} {size} {sum}")?;
+        }
+        "documents-made"
+        | "documents-read"
+        | "documents-typed"
+        | "documents-keyed"
+        | "documents-rebuilt"
+        | "documents-printed" => {
+            let sum = documents::run(rt.alloc(), &case.as_str()[10..], size)?;
             println!(rt; "{case} {size} {sum}")?;
         }
         "time_print" => time_print::run(&rt, size)?,

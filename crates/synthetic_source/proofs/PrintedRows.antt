@@ -1,0 +1,262 @@
+-- The normal form of a row prints to a text that reads back.
+use Rattle.std.proofs.Common.{◌≡◌, ◌≤◌, ℕ, ℤ, pos, negsuc, Bool, true, false, List, [], ◌∷◌, ◌++◌, map, w64, FitsSigned, refl, arith}
+use Rattle.std.proofs.lemmas.Int.{ints}
+use Rattle.std.proofs.lemmas.Str.{IsUtf8-from_ascii}
+use Rattle.std.specs.Str.{IsUtf8}
+use Rattle.fold_law.specs.declared.measures.Parts.{Parts}
+use Rattle.json.proofs.Printed.Utf8.{IsUtf8-are_ascii}
+use Rattle.row_cells.specs.declared.scalars.Scalar.{Scalar}
+use Rattle.row_cells.specs.declared.scalars.Scalar.TheVariants.{Whole, Flag, Word}
+use Rattle.row_cells.specs.declared.schemas.FieldType.{FieldType}
+use Rattle.row_cells.specs.declared.schemas.FieldType.TheVariants.{Date, Keyword, Long, Integer, Short, Byte, Boolean, Aggregate}
+use Rattle.row_cells.specs.declared.schemas.Role.{Role}
+use Rattle.row_cells.specs.declared.schemas.Role.TheVariants.{Time, Dimension, Gauge as GaugeRole, Counter, Label}
+use Rattle.row_cells.specs.declared.schemas.Field.{Field}
+use Rattle.row_cells.specs.declared.schemas.Schema.{Schema}
+use Rattle.row_cells.specs.declared.rows.Cell.{Cell}
+use Rattle.row_cells.specs.declared.rows.Cell.TheVariants.{Absent, One, Many, Gauge, Rise}
+use Rattle.row_cells.specs.declared.rows.Row.{Row}
+use Rattle.row_cells.specs.Fitting.{IsNumberOf, IsValueOf, AreValues, AreValuesAfter, CellFits, CellsFit, Fits}
+use Rattle.row_cells.specs.Mapped.{ArePaths}
+use Rattle.serde_json.specs.Data.{string, depth, items_depth}
+use Rattle.serde_json.specs.Find.{of_integer}
+use Rattle.serde_json.specs.View.{items_of}
+use Rattle.time_text.specs.Instant.{IsInstant}
+use Rattle.time_text.specs.Printed.{instant_text}
+use Rattle.time_text.proofs.PrintedLemmas.{instant_text_ascii}
+use Rattle.ts_mapping.specs.Schemas.{IsTemplateSchema}
+use Rattle.synthetic_source.specs.Levels.{Shown, longest, levels}
+use Rattle.synthetic_source.specs.Normal.{whole_data, scalar_data, list_data, parts_data, cell_data, shown_cell, shown_as, shown_of, count_shown, shown_row, norm}
+use Rattle.synthetic_source.proofs.Printable.{IsPrintableNumber, IsPrintable, ArePrintable}
+use Rattle.synthetic_source.specs.PrintedLaws.{parts_of, AreShallow, HasSmallSums, HaveSmallSums}
+use Rattle.synthetic_source.proofs.PrintedLevels.{AreTexts, AreWithin, level_printable, level_depth}
+
+-- ---- single values
+
+number_printable : (v : ℤ) → FitsSigned w64 v → IsPrintableNumber (of_integer v)
+number_printable (pos n) h = omega (arith, ints)
+number_printable (negsuc n) h = omega (arith, ints)
+
+-- the numbers of each type have 64 bits
+number_fits : (kind : FieldType) (v : ℤ) → IsNumberOf kind v → FitsSigned w64 v
+number_fits Date v is = omega (arith, ints)
+number_fits Keyword v is = absurd is
+number_fits Long v is = is
+number_fits Integer v is = omega (arith, ints)
+number_fits Short v is = omega (arith, ints)
+number_fits Byte v is = omega (arith, ints)
+number_fits Boolean v is = absurd is
+number_fits Aggregate v is = is
+
+instant_printable : (t : ℤ) → IsInstant t → IsUtf8 (instant_text t)
+instant_printable t is = IsUtf8-from_ascii (instant_text t) (instant_text_ascii t is)
+
+whole_printable : (kind : FieldType) (v : ℤ) → IsNumberOf kind v → IsPrintable (whole_data kind v)
+whole_printable Date v is = instant_printable v is
+whole_printable Keyword v is = absurd is
+whole_printable Long v is = number_printable v (number_fits Long v is)
+whole_printable Integer v is = number_printable v (number_fits Integer v is)
+whole_printable Short v is = number_printable v (number_fits Short v is)
+whole_printable Byte v is = number_printable v (number_fits Byte v is)
+whole_printable Boolean v is = absurd is
+whole_printable Aggregate v is = number_printable v (number_fits Aggregate v is)
+
+whole_number : (kind : FieldType) (v : ℤ) → IsValueOf kind (Whole v) → IsNumberOf kind v
+whole_number Date v is = is
+whole_number Keyword v is = is
+whole_number Long v is = is
+whole_number Integer v is = is
+whole_number Short v is = is
+whole_number Byte v is = is
+whole_number Boolean v is = is
+whole_number Aggregate v is = absurd is
+
+word_utf8 : (kind : FieldType) (t : List ℕ) → IsValueOf kind (Word t) → IsUtf8 t
+word_utf8 Date t is = absurd is
+word_utf8 Keyword t is = is.0
+word_utf8 Long t is = absurd is
+word_utf8 Integer t is = absurd is
+word_utf8 Short t is = absurd is
+word_utf8 Byte t is = absurd is
+word_utf8 Boolean t is = absurd is
+word_utf8 Aggregate t is = absurd is
+
+scalar_printable : (kind : FieldType) (v : Scalar) → IsValueOf kind v → IsPrintable (scalar_data kind v)
+scalar_printable kind (Whole v) is = whole_printable kind v (whole_number kind v is)
+scalar_printable kind (Flag b) is = tt
+scalar_printable kind (Word t) is = word_utf8 kind t is
+
+later_printable : (kind : FieldType) (first : Scalar) (vs : List Scalar) → AreValuesAfter kind first vs → ArePrintable (items_of (map (scalar_data kind) vs))
+later_printable kind first [] are = tt
+later_printable kind first (v ∷ vs) are = (scalar_printable kind v are.1, later_printable kind v vs are.2)
+
+list_printable : (kind : FieldType) (vs : List Scalar) → AreValues kind vs → IsPrintable (list_data kind vs)
+list_printable kind [] are = absurd are
+list_printable kind (v ∷ []) are = scalar_printable kind v are.0
+list_printable kind (v ∷ w ∷ vs) are = (scalar_printable kind v are.0, later_printable kind v (w ∷ vs) are.1)
+
+parts_printable : (p : Parts) → FitsSigned w64 p.max → FitsSigned w64 p.min → FitsSigned w64 p.sum → FitsSigned w64 p.count → IsPrintable (parts_data p)
+parts_printable p greatest least sum count = (
+  (refl, (refl, (refl, tt))),
+  (
+    IsUtf8-are_ascii _ refl,
+    number_printable p.max greatest,
+    (
+      IsUtf8-are_ascii _ refl,
+      number_printable p.min least,
+      (
+        IsUtf8-are_ascii _ refl,
+        number_printable p.sum sum,
+        (IsUtf8-are_ascii _ refl, number_printable p.count count, tt),
+      ),
+    ),
+  ),
+)
+
+-- ---- cells
+
+cell_printable : (folded rises : Bool) (kind : FieldType) (role : Role) (n : ℕ) (cell : Cell) → CellFits folded rises kind role n cell → HasSmallSums cell → IsPrintable (cell_data kind cell)
+cell_printable folded rises kind role n Absent fits small = tt
+cell_printable folded rises kind Time n (One v) fits small = absurd fits
+cell_printable folded rises kind Time n (Many vs) fits small = absurd fits
+cell_printable folded rises kind Time n (Gauge p) fits small = absurd fits
+cell_printable folded rises kind Time n (Rise r) fits small = absurd fits
+cell_printable folded rises kind Dimension n (One v) fits small = scalar_printable kind v fits
+cell_printable folded rises kind Dimension n (Many vs) fits small = absurd fits
+cell_printable folded rises kind Dimension n (Gauge p) fits small = absurd fits
+cell_printable folded rises kind Dimension n (Rise r) fits small = absurd fits
+cell_printable false rises kind GaugeRole n (One (Whole v)) fits small = scalar_printable kind (Whole v) fits
+cell_printable false rises kind GaugeRole n (One (Flag b)) fits small = absurd fits
+cell_printable false rises kind GaugeRole n (One (Word t)) fits small = absurd fits
+cell_printable false rises kind GaugeRole n (Many vs) fits small = absurd fits
+cell_printable false rises kind GaugeRole n (Gauge p) fits small = parts_printable p fits.1.greatest fits.1.least small.0 small.1
+cell_printable false rises kind GaugeRole n (Rise r) fits small = absurd fits
+cell_printable true rises kind GaugeRole n (One v) fits small = absurd fits
+cell_printable true rises kind GaugeRole n (Many vs) fits small = absurd fits
+cell_printable true rises kind GaugeRole n (Gauge p) fits small = parts_printable p (number_fits kind p.max fits.greatest) (number_fits kind p.min fits.least) small.0 small.1
+cell_printable true rises kind GaugeRole n (Rise r) fits small = absurd fits
+cell_printable false rises kind Counter n (One (Whole v)) fits small = scalar_printable kind (Whole v) fits
+cell_printable false rises kind Counter n (One (Flag b)) fits small = absurd fits
+cell_printable false rises kind Counter n (One (Word t)) fits small = absurd fits
+cell_printable false rises kind Counter n (Many vs) fits small = absurd fits
+cell_printable false rises kind Counter n (Gauge p) fits small = absurd fits
+cell_printable false rises kind Counter n (Rise r) fits small = absurd fits
+cell_printable true false kind Counter n (One (Whole v)) fits small = scalar_printable kind (Whole v) fits
+cell_printable true false kind Counter n (One (Flag b)) fits small = absurd fits
+cell_printable true false kind Counter n (One (Word t)) fits small = absurd fits
+cell_printable true false kind Counter n (Many vs) fits small = absurd fits
+cell_printable true false kind Counter n (Gauge p) fits small = absurd fits
+cell_printable true false kind Counter n (Rise r) fits small = absurd fits
+cell_printable true true kind Counter n (One v) fits small = absurd fits
+cell_printable true true kind Counter n (Many vs) fits small = absurd fits
+cell_printable true true kind Counter n (Gauge p) fits small = absurd fits
+cell_printable true true kind Counter n (Rise r) fits small = whole_printable kind r.last fits.last_fits
+cell_printable folded rises kind Label n (One v) fits small = absurd fits
+cell_printable folded rises kind Label n (Many vs) fits small = list_printable kind vs fits
+cell_printable folded rises kind Label n (Gauge p) fits small = absurd fits
+cell_printable folded rises kind Label n (Rise r) fits small = absurd fits
+
+-- the sums of a raw row have 64 bits
+small_raw : (rises : Bool) (kind : FieldType) (role : Role) (n : ℕ) (cell : Cell) → CellFits false rises kind role n cell → HasSmallSums cell
+small_raw rises kind role n Absent fits = tt
+small_raw rises kind role n (One v) fits = tt
+small_raw rises kind role n (Many vs) fits = tt
+small_raw rises kind role n (Rise r) fits = tt
+small_raw rises kind Time n (Gauge p) fits = absurd fits
+small_raw rises kind Dimension n (Gauge p) fits = absurd fits
+small_raw rises kind GaugeRole n (Gauge p) fits = (fits.1.sum_fits, fits.1.count_fits)
+small_raw rises kind Counter n (Gauge p) fits = absurd fits
+small_raw rises kind Label n (Gauge p) fits = absurd fits
+
+pub all_small_raw : (rises : Bool) (n : ℕ) (fs : List Field) (cs : List Cell) → CellsFit false rises n fs cs → HaveSmallSums cs
+all_small_raw rises n [] [] fit = tt
+all_small_raw rises n [] (c ∷ cs) fit = absurd fit
+all_small_raw rises n (f ∷ fs) [] fit = absurd fit
+all_small_raw rises n (f ∷ fs) (c ∷ cs) fit = (small_raw rises f.kind f.role n c fit.0, all_small_raw rises n fs cs fit.1)
+
+-- ---- depths
+
+whole_flat : (kind : FieldType) (v : ℤ) → depth (whole_data kind v) ≡ 0
+whole_flat Date v = refl
+whole_flat Keyword v = refl
+whole_flat Long v = refl
+whole_flat Integer v = refl
+whole_flat Short v = refl
+whole_flat Byte v = refl
+whole_flat Boolean v = refl
+whole_flat Aggregate v = refl
+
+scalar_flat : (kind : FieldType) (v : Scalar) → depth (scalar_data kind v) ≡ 0
+scalar_flat kind (Whole v) = whole_flat kind v
+scalar_flat kind (Flag b) = refl
+scalar_flat kind (Word t) = refl
+
+items_flat : (kind : FieldType) (vs : List Scalar) → items_depth (items_of (map (scalar_data kind) vs)) ≡ 0
+items_flat kind [] = refl
+items_flat kind (v ∷ vs) = omega (arith, scalar_flat kind v, items_flat kind vs)
+
+list_depth : (kind : FieldType) (vs : List Scalar) → depth (list_data kind vs) ≤ 1
+list_depth kind [] = omega arith
+list_depth kind (v ∷ []) = omega (arith, scalar_flat kind v)
+list_depth kind (v ∷ w ∷ vs) = omega (arith, items_flat kind (v ∷ w ∷ vs))
+
+cell_depth : (kind : FieldType) (cell : Cell) → depth (cell_data kind cell) ≤ 1
+cell_depth kind Absent = omega arith
+cell_depth kind (One v) = omega (arith, scalar_flat kind v)
+cell_depth kind (Many vs) = list_depth kind vs
+cell_depth kind (Gauge p) = omega arith
+cell_depth kind (Rise r) = omega (arith, whole_flat kind r.last)
+
+-- ---- rows
+
+-- fields as they are shown, of paths that are short
+abbrev AreSound : List Shown → Type 0
+AreSound es = AreTexts es × AreWithin 126 es
+
+one_sound : (e : Shown) (es : List Shown) → IsUtf8 e.path → IsPrintable e.value → parts_of e.path ≤ 126 → depth e.value ≤ 1 → AreSound es → AreSound (e ∷ es)
+one_sound e es path value parts deep rest = ((path, value, rest.0), (omega arith, rest.1))
+
+cell_sound : (path : List ℕ) (kind : FieldType) (cell : Cell) (es : List Shown) → IsUtf8 path → parts_of path ≤ 126 → IsPrintable (cell_data kind cell) → AreSound es → AreSound (shown_cell path kind cell es)
+cell_sound path kind Absent es text parts value rest = rest
+cell_sound path kind (One v) es text parts value rest = one_sound (record { path = path; value = cell_data kind (One v) }) es text value parts (cell_depth kind (One v)) rest
+cell_sound path kind (Many vs) es text parts value rest = one_sound (record { path = path; value = cell_data kind (Many vs) }) es text value parts (cell_depth kind (Many vs)) rest
+cell_sound path kind (Gauge p) es text parts value rest = one_sound (record { path = path; value = cell_data kind (Gauge p) }) es text value parts (cell_depth kind (Gauge p)) rest
+cell_sound path kind (Rise r) es text parts value rest = one_sound (record { path = path; value = cell_data kind (Rise r) }) es text value parts (cell_depth kind (Rise r)) rest
+
+role_sound : (role : Role) (time : ℤ) (f : Field) (cell : Cell) (es : List Shown) → IsInstant time → IsUtf8 f.path → parts_of f.path ≤ 126 → IsPrintable (cell_data f.kind cell) → AreSound es → AreSound (shown_as role time f cell es)
+role_sound Time time f cell es is text parts value rest = one_sound (record { path = f.path; value = string (instant_text time) }) es text (instant_printable time is) parts (omega arith) rest
+role_sound Dimension time f cell es is text parts value rest = cell_sound f.path f.kind cell es text parts value rest
+role_sound GaugeRole time f cell es is text parts value rest = cell_sound f.path f.kind cell es text parts value rest
+role_sound Counter time f cell es is text parts value rest = cell_sound f.path f.kind cell es text parts value rest
+role_sound Label time f cell es is text parts value rest = cell_sound f.path f.kind cell es text parts value rest
+
+fields_sound : (folded rises : Bool) (n : ℕ) (time : ℤ) (fs : List Field) (cs : List Cell) → IsInstant time → ArePaths fs → AreShallow fs → CellsFit folded rises n fs cs → HaveSmallSums cs → AreSound (shown_of time fs cs)
+fields_sound folded rises n time [] [] is paths shallow fit small = (tt, tt)
+fields_sound folded rises n time [] (c ∷ cs) is paths shallow fit small = absurd fit
+fields_sound folded rises n time (f ∷ fs) [] is paths shallow fit small = absurd fit
+fields_sound folded rises n time (f ∷ fs) (c ∷ cs) is paths shallow fit small =
+    role_sound f.role time f c (shown_of time fs cs) is paths.0.text shallow.0 (cell_printable folded rises f.kind f.role n c fit.0 small.0) (fields_sound folded rises n time fs cs is paths.1 shallow.1 fit.1 small.1)
+
+count_sound : (folded : Bool) (count : ℕ) → count ≤ 16777216 → AreSound (count_shown folded count)
+count_sound false count few = (tt, tt)
+count_sound true count few = ((IsUtf8-are_ascii _ refl, omega arith, tt), (omega arith, tt))
+
+append_sound : (es ds : List Shown) → AreSound es → AreSound ds → AreSound (es ++ ds)
+append_sound [] ds h k = k
+append_sound (e ∷ es) ds h k = let rest = append_sound es ds (h.0.2, h.1.1) k in ((h.0.0, h.0.1, rest.0), (h.1.0, rest.1))
+
+row_sound : (schema : Schema) (row : Row) → IsTemplateSchema schema → Fits schema row → AreShallow schema.fields → HaveSmallSums row.cells → AreSound (shown_row schema row)
+row_sound schema row template fits shallow small =
+    append_sound (shown_of row.time schema.fields row.cells) (count_shown schema.folded row.count)
+    (fields_sound schema.folded schema.rises row.count row.time schema.fields row.cells fits.instant template.mapped.paths shallow fits.cells_fit small)
+    (count_sound schema.folded row.count fits.count_within)
+
+pub norm_printable : (schema : Schema) (row : Row) → IsTemplateSchema schema → Fits schema row → AreShallow schema.fields → HaveSmallSums row.cells → IsPrintable (norm schema row)
+unfolding norm levels
+norm_printable schema row template fits shallow small = level_printable (longest (shown_row schema row)) (shown_row schema row) (row_sound schema row template fits shallow small).0
+
+pub norm_depth : (schema : Schema) (row : Row) → IsTemplateSchema schema → Fits schema row → AreShallow schema.fields → HaveSmallSums row.cells → depth (norm schema row) ≤ 127
+unfolding norm levels
+norm_depth schema row template fits shallow small =
+    let within = level_depth (longest (shown_row schema row)) 126 (shown_row schema row) (row_sound schema row template fits shallow small).1 in
+    omega arith

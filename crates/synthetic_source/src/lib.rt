@@ -1,0 +1,25 @@
+//! Documents to rows, and rows back to documents.
+#![tactic(auto)]
+
+mod content;
+mod contents;
+mod errors;
+mod gathering;
+mod groups;
+mod laws;
+mod ordering;
+mod plain;
+mod printed;
+mod reading;
+mod rebuilding;
+mod strays;
+#[cfg(test)]
+mod tests;
+mod typing;
+mod what;
+
+pub use errors::{DocError, DocKind};
+pub use laws::rebuilt_types;
+pub use printed::printed_reads_back;
+pub use rebuilding::{rebuild, rebuild_value};
+pub use typing::{Typed, read_time, type_doc};
