@@ -1,0 +1,42 @@
+use Rattle.std.proofs.Common.{◌∙◌, ap, arith, ℕ, List, length}
+use Rattle.column_block.specs.Decoded.{ArePlaced}
+use Rattle.column_block.specs.HeldParts.{IsPartsColumn}
+use Rattle.column_block.specs.Presence.{present}
+use Rattle.column_block.specs.Spelling.{six_lists}
+use Rattle.column_block.proofs.Aheads.{flags-known, long-enough, count-order, count-whole}
+use Rattle.column_block.proofs.Wholes.{numbers-are, rows-are, rows-count}
+use Rattle.column_block.proofs.parts_column.PartsColumn.values.Goals as goal
+
+pub overflow_sub-last : goal.overflow_sub-last
+overflow_sub-last c = omega (arith, c.count_to-first.ensures.count, c.count_to-last.ensures.count, count-order c.args.self.now c.args.from c.args.to c.requires.order)
+
+pub put_parts_range-requires : goal.put_parts_range-requires
+put_parts_range-requires c =
+    let i = c.self.inside in
+    let vs = c.args.self.now in
+    let h : IsPartsColumn i.rows i.bytes.items i.places i.counts.items vs = rw (← c.self.view_is) c.self.invariant in
+    (present vs, rw (c.as_slice-bytes.ensures.value, c.as_slice.ensures) h.placed, omega (arith, c.count_to-first.ensures.count, c.count_to-last.ensures.count, count-order vs c.args.from c.args.to c.requires.order), omega (arith, c.count_to-last.ensures.count, count-whole vs c.args.to))
+
+pub spread_over-requires-clause-within : goal.spread_over-requires-clause-within
+spread_over-requires-clause-within c =
+    let i = c.self.inside in
+    let h : IsPartsColumn i.rows i.bytes.items i.places i.counts.items c.args.self.now = rw (← c.self.view_is) c.self.invariant in
+    omega (arith, c.requires.within, long-enough i.bytes.items c.args.self.now (six_lists (present c.args.self.now)) h.spelled, ap (λ (z : List ℕ). length z) c.as_slice-bytes.ensures.value)
+
+pub spread_over-requires-clause-as_many : goal.spread_over-requires-clause-as_many
+spread_over-requires-clause-as_many c =
+    let i = c.self.inside in
+    let vs = c.args.self.now in
+    let h : IsPartsColumn i.rows i.bytes.items i.places i.counts.items vs = rw (← c.self.view_is) c.self.invariant in
+    let placed : ArePlaced c.as_slice-bytes.result.now c.as_slice.result.now (six_lists (present vs)) = rw (c.as_slice-bytes.ensures.value, c.as_slice.ensures) h.placed in
+    rows-count i.rows c.args.from c.args.to i.bytes.items c.as_slice-bytes.result.now vs c.as_slice-2.result.now c.as_slice-bytes.ensures.value (flags-known i.rows i.bytes.items vs (six_lists (present vs)) h.length_is h.spelled) c.requires.order (omega (arith, c.requires.within, h.length_is))
+    (numbers-are vs c.args.from c.args.to c.count_to-first.result c.count_to-last.result c.as_slice-2.result.now _ _ c.requires.order c.count_to-first.ensures.count c.count_to-last.ensures.count c.as_slice-2.ensures.value (c.in_ok-put_parts_range.ensures (present vs) placed) c.in_ok-parts.ensures.items)
+
+pub returns : goal.returns
+returns c =
+    let i = c.self.inside in
+    let vs = c.args.self.now in
+    let h : IsPartsColumn i.rows i.bytes.items i.places i.counts.items vs = rw (← c.self.view_is) c.self.invariant in
+    let placed : ArePlaced c.as_slice-bytes.result.now c.as_slice.result.now (six_lists (present vs)) = rw (c.as_slice-bytes.ensures.value, c.as_slice.ensures) h.placed in
+    c.in_ok-rows.ensures ∙ rows-are i.rows c.args.from c.args.to i.bytes.items c.as_slice-bytes.result.now vs c.as_slice-2.result.now c.as_slice-bytes.ensures.value (flags-known i.rows i.bytes.items vs (six_lists (present vs)) h.length_is h.spelled) c.requires.order (omega (arith, c.requires.within, h.length_is))
+    (numbers-are vs c.args.from c.args.to c.count_to-first.result c.count_to-last.result c.as_slice-2.result.now _ _ c.requires.order c.count_to-first.ensures.count c.count_to-last.ensures.count c.as_slice-2.ensures.value (c.in_ok-put_parts_range.ensures (present vs) placed) c.in_ok-parts.ensures.items)

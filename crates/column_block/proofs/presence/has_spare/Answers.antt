@@ -1,0 +1,10 @@
+use Rattle.column_pack.proofs.Words.{bytes-all}
+use Rattle.column_pack.proofs.Checks.{no-iff}
+use Rattle.column_pack.proofs.Layouts.{spare-none, spare-some}
+use Rattle.column_block.proofs.presence.has_spare.Goals as goal
+
+pub returns : goal.returns
+returns c = spare-some c.args.bytes.now c.args.bits (bytes-all c.args.bytes.now c.type_inv.bytes) c.requires c.if-used-eq0.false
+
+pub returns-then-used-eq0 : goal.returns-then-used-eq0
+returns-then-used-eq0 c = no-iff (spare-none c.args.bytes.now c.args.bits (bytes-all c.args.bytes.now c.type_inv.bytes) c.requires c.if-used-eq0.true)

@@ -1,0 +1,13 @@
+pub mod Nums
+pub mod Presence
+pub mod Rules
+pub mod Spelling
+pub mod Ranges
+pub mod Decoded
+pub mod Found
+pub mod Packed
+pub mod Held
+pub mod Cutting
+pub mod Worded
+pub mod Columned
+pub mod HeldParts
