@@ -3,6 +3,7 @@
 #![tactic(auto)]
 
 mod blocks;
+mod columns;
 mod documents;
 mod fold_rows;
 mod templates;
@@ -42,7 +43,11 @@ fn main(rt: HostRuntime) -> Result<()> {
         "time_read" => time_read::run(&rt, rt.alloc(), size)?,
         "time_table" => time_table::run(&rt)?,
         case => {
-            let Some(sum) = blocks::run(rt.alloc(), case, size)? else {
+            let sum = match columns::run(rt.alloc(), case, size)? {
+                Some(sum) => Some(sum),
+                None => blocks::run(rt.alloc(), case, size)?,
+            };
+            let Some(sum) = sum else {
                 bail!("no such case");
             };
             println!(rt; "{case} {size} {sum}")?;
