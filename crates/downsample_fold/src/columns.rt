@@ -1,14 +1,14 @@
 //! Folds of one field over the rows of a place, which stand in row order: the latest first.
 ghost use Rattle.std.specs.Prelude.{◌≡◌, ◌<◌, length, true, IfOk, List};
 ghost use Rattle.row_cells.specs.Each.{Each};
-ghost use Rattle.row_cells.specs.Merging.{cell_of_parts, cell_of_rise, parts_of, rise_of};
+ghost use Rattle.row_cells.specs.Merging.{cell_of_parts, cell_of_rise};
 ghost use Rattle.row_cells.specs.declared.rows.Row.{Row};
 ghost use Rattle.downsample_fold.specs.Columns.{cell_of, column_of, earliest_cell, fold_column, latest_present};
 ghost use Rattle.downsample_fold.specs.Room.{ColumnHasRoom};
 
 use edge_face::NoMemory;
-use fold_law::{Fold, Gauge, Parts, Rise, Rising};
-use row_cells::{Cell, Role, Row, Scalar, copy_cell};
+use fold_law::{Fold, Gauge, Rising};
+use row_cells::{Cell, Role, Row, copy_cell, gauge_cell, gauge_of, rise_cell, rising_of};
 use std::alloc::Global;
 
 fn cell_at(row: &Row, place: usize) -> &Cell
@@ -16,35 +16,6 @@ fn cell_at(row: &Row, place: usize) -> &Cell
     ensures { result.now ≡ cell_of place row.now }
 {
     &row.cells.as_slice()[place]
-}
-
-fn gauge_of(cell: &Cell) -> Gauge
-    ensures { result.0 ≡ parts_of cell.now }
-{
-    match cell {
-        Cell::One(Scalar::Whole(value)) => Gauge(Some(Parts {
-            min: *value,
-            max: *value,
-            sum: i128::from(*value),
-            count: 1,
-        })),
-        Cell::Gauge(parts) => Gauge(Some(*parts)),
-        _ => Gauge(None),
-    }
-}
-
-fn rising_of(cell: &Cell) -> Rising
-    ensures { result.0 ≡ rise_of cell.now }
-{
-    match cell {
-        Cell::One(Scalar::Whole(value)) => Rising(Some(Rise {
-            first: *value,
-            last: *value,
-            increase: 0,
-        })),
-        Cell::Rise(rise) => Rising(Some(*rise)),
-        _ => Rising(None),
-    }
 }
 
 /// A gauge over all rows, joined from the earliest on.
@@ -98,24 +69,6 @@ fn copy_earliest(alloc: Global, rows: &[Row], place: usize) -> Result<Cell, NoMe
     ensures { IfOk result (λ cell. cell ≡ earliest_cell (column_of place rows.now)) }
 {
     copy_cell(alloc, cell_at(&rows[rows.len() - 1], place))
-}
-
-fn gauge_cell(gauge: Gauge) -> Cell
-    ensures { result ≡ cell_of_parts gauge.0 }
-{
-    match gauge.0 {
-        None => Cell::Absent,
-        Some(parts) => Cell::Gauge(parts),
-    }
-}
-
-fn rise_cell(rising: Rising) -> Cell
-    ensures { result ≡ cell_of_rise rising.0 }
-{
-    match rising.0 {
-        None => Cell::Absent,
-        Some(rise) => Cell::Rise(rise),
-    }
 }
 
 /// What is folded of the cells of all rows at one place among the fields.

@@ -1,3 +1,5 @@
 pub mod Beside
-pub mod Spelled
+mod Fit
 pub mod Joined
+pub mod Spelled
+mod WordOrder

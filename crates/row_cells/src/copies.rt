@@ -1,8 +1,9 @@
-//! Copies of values, cells and rows.
+//! Copies of values, cells, rows and schemas.
 ghost use Rattle.std.specs.Prelude.{◌≡◌, IfOk};
 
 use crate::rows::{Cell, Row};
 use crate::scalars::Scalar;
+use crate::schemas::{Field, Schema};
 use edge_face::NoMemory;
 use sqlite_items::Items;
 use std::alloc::Global;
@@ -62,5 +63,38 @@ pub fn copy_row(alloc: Global, row: &Row) -> Result<Row, NoMemory>
         time: row.time,
         count: row.count,
         cells: copy_cells(alloc, row.cells.as_slice())?,
+    })
+}
+
+/// A copy of a field.
+pub fn copy_field(alloc: Global, field: &Field) -> Result<Field, NoMemory>
+    ensures { IfOk result (λ copy. copy ≡ field.now) }
+{
+    Ok(Field {
+        path: field.path.copy(alloc)?,
+        kind: field.kind,
+        role: field.role,
+    })
+}
+
+fn copy_fields(alloc: Global, fields: &[Field]) -> Result<Items<Field>, NoMemory>
+    ensures { IfOk result (λ copies. copies ≡ fields.now) }
+{
+    let mut copies = Vec::with_capacity(alloc, fields.len())?;
+    for field in fields {
+        copies.push(copy_field(alloc, field)?)?;
+    }
+    Ok(Items::from_vec(copies))
+}
+
+/// A copy of a schema.
+pub fn copy_schema(alloc: Global, schema: &Schema) -> Result<Schema, NoMemory>
+    ensures { IfOk result (λ copy. copy ≡ schema.now) }
+{
+    Ok(Schema {
+        fields: copy_fields(alloc, schema.fields.as_slice())?,
+        routing: Items::from_slice(alloc, schema.routing.as_slice())?,
+        folded: schema.folded,
+        rises: schema.rises,
     })
 }

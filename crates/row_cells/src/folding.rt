@@ -1,66 +1,19 @@
 //! The fold of rows of one series.
 ghost use Rattle.std.specs.Prelude.{◌≡◌, ◌+◌, ◌≤◌, IfOk, IsTrue, length, List};
-ghost use Rattle.row_cells.specs.Merging.{parts_of, cell_of_parts, rise_of, cell_of_rise, last_cell, merge_cell, fold_cell};
+ghost use Rattle.row_cells.specs.Merging.{last_cell, merge_cell, fold_cell};
 ghost use Rattle.row_cells.specs.Merging.{AllHaveRoom, HaveRoom, fold_cells, fold_of_row, merge_cells, merge_of_rows};
 ghost use Rattle.row_cells.specs.Fitting.{Fits, FitsEither, folded_form};
 ghost use Rattle.row_cells.specs.declared.rows.Row.{Row};
 ghost use Rattle.row_cells.specs.declared.schemas.Schema.{Schema};
 
 use crate::copies::copy_cell;
+use crate::measures::{gauge_cell, gauge_of, rise_cell, rising_of};
 use crate::rows::{Cell, Row};
-use crate::scalars::Scalar;
 use crate::schemas::{Field, Role, Schema};
 use edge_face::NoMemory;
-use fold_law::{Fold, Gauge, Parts, Rise, Rising};
+use fold_law::Fold;
 use sqlite_items::Items;
 use std::alloc::Global;
-
-fn gauge_of(cell: &Cell) -> Gauge
-    ensures { result.0 ≡ parts_of cell.now }
-{
-    match cell {
-        Cell::One(Scalar::Whole(value)) => Gauge(Some(Parts {
-            min: *value,
-            max: *value,
-            sum: i128::from(*value),
-            count: 1,
-        })),
-        Cell::Gauge(parts) => Gauge(Some(*parts)),
-        _ => Gauge(None),
-    }
-}
-
-fn gauge_cell(gauge: Gauge) -> Cell
-    ensures { result ≡ cell_of_parts gauge.0 }
-{
-    match gauge.0 {
-        None => Cell::Absent,
-        Some(parts) => Cell::Gauge(parts),
-    }
-}
-
-fn rising_of(cell: &Cell) -> Rising
-    ensures { result.0 ≡ rise_of cell.now }
-{
-    match cell {
-        Cell::One(Scalar::Whole(value)) => Rising(Some(Rise {
-            first: *value,
-            last: *value,
-            increase: 0,
-        })),
-        Cell::Rise(rise) => Rising(Some(*rise)),
-        _ => Rising(None),
-    }
-}
-
-fn rise_cell(rising: Rising) -> Cell
-    ensures { result ≡ cell_of_rise rising.0 }
-{
-    match rising.0 {
-        None => Cell::Absent,
-        Some(rise) => Cell::Rise(rise),
-    }
-}
 
 fn copy_last(alloc: Global, earlier: &Cell, later: &Cell) -> Result<Cell, NoMemory>
     ensures { IfOk result (λ cell. cell ≡ last_cell earlier.now later.now) }

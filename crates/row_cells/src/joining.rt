@@ -4,6 +4,7 @@ ghost use Rattle.row_cells.specs.Fitting.{FieldsAscend};
 ghost use Rattle.row_cells.specs.Joining.{FieldsAgree, Follows, IsIn, join_fields, join_of_schemas};
 ghost use Rattle.row_cells.specs.declared.schemas.Field.{Field};
 
+use crate::copies::copy_field;
 use crate::schemas::{Field, Schema};
 use edge_face::NoMemory;
 use sqlite_items::Items;
@@ -59,16 +60,6 @@ fn next_field<'a>(first: &'a [Field], second: &'a [Field]) -> Option<Next<'a>>
             },
         },
     }
-}
-
-fn copy_field(alloc: Global, field: &Field) -> Result<Field, NoMemory>
-    ensures { IfOk result (λ copy. copy ≡ field.now) }
-{
-    Ok(Field {
-        path: field.path.copy(alloc)?,
-        kind: field.kind,
-        role: field.role,
-    })
 }
 
 pub fn join_all(alloc: Global, first: &[Field], second: &[Field]) -> Result<Items<Field>, NoMemory>

@@ -2,9 +2,11 @@
 #![tactic(auto)]
 
 mod copies;
+mod fits;
 mod folding;
 mod joining;
 mod keys;
+mod measures;
 mod order;
 mod rows;
 mod scalars;
@@ -13,14 +15,20 @@ mod spelling;
 #[cfg(test)]
 mod tests;
 mod widening;
+mod words;
 
-pub use copies::{copy_cell, copy_cells, copy_row, copy_scalar, copy_scalars};
+pub use copies::{
+    copy_cell, copy_cells, copy_field, copy_row, copy_scalar, copy_scalars, copy_schema,
+};
+pub use fits::fit_cells;
 pub use folding::{fold_row, merge_rows, merges_in_any_grouping};
 pub use joining::join_schemas;
 pub use keys::Key;
+pub use measures::{gauge_cell, gauge_of, rise_cell, rising_of};
 pub use order::row_order;
 pub use rows::{Cell, Row};
 pub use scalars::Scalar;
 pub use schemas::{Field, FieldType, Role, Schema};
 pub use spelling::keys_tell_dimensions;
 pub use widening::widen;
+pub use words::bytes_order;

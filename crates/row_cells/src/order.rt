@@ -8,6 +8,7 @@ ghost use Rattle.row_cells.specs.Order.{row_cmp};
 
 use crate::keys::Key;
 use crate::rows::Row;
+use crate::words::bytes_order;
 use std::cmp::Ordering;
 
 impl PartialEq for Key {
@@ -16,7 +17,7 @@ impl PartialEq for Key {
     ghost laws = { Cmp.partial_equiv_from_equiv nat_list_eq_equiv };
 
     fn eq(&self, other: &Key) -> bool {
-        self.bytes() == other.bytes()
+        bytes_order(self.bytes(), other.bytes()).is_eq()
     }
 }
 
@@ -44,7 +45,7 @@ impl Ord for Key {
     ghost matches_eq = { texts_ties };
 
     fn cmp(&self, other: &Key) -> Ordering {
-        self.bytes().cmp(other.bytes())
+        bytes_order(self.bytes(), other.bytes())
     }
 }
 

@@ -5,6 +5,7 @@ ghost use Rattle.row_cells.specs.Fitting.{Fits};
 ghost use Rattle.time_text.specs.Instant.{IsInstant};
 
 use crate::copies::copy_row;
+use crate::fits::fit_cells;
 use crate::folding::{merge_one, merge_rows};
 use crate::joining::join_all;
 use crate::keys::Key;
@@ -12,6 +13,7 @@ use crate::rows::{Cell, Row};
 use crate::scalars::Scalar;
 use crate::schemas::{Field, FieldType, Role, Schema};
 use crate::widening::walk;
+use crate::words::bytes_order;
 use edge_face::Text;
 use sqlite_items::Items;
 use std::alloc::Global;
@@ -175,5 +177,37 @@ fn fields_are_joined(rt: HostRuntime) -> Result<(), Fail> {
     let schema = sample(alloc)?;
     let joined = join_all(alloc, schema.fields.as_slice(), schema.fields.as_slice())?;
     assert_eq!(rt; joined.len(), 2);
+    Ok(())
+}
+
+#[test]
+fn bytes_are_ordered(rt: HostRuntime) {
+    let texts: [&[u8]; 7] = [
+        b"",
+        b"a",
+        b"abcdefgh",
+        b"abcdefgh\x00",
+        b"abcdefgi",
+        b"abcdefgi1234567\x00",
+        b"b",
+    ];
+    for i in 0..texts.len() {
+        for j in 0..texts.len() {
+            assert_eq!(rt; bytes_order(texts[i], texts[j]), i.cmp(&j));
+        }
+    }
+}
+
+#[test]
+fn cells_fit_their_fields(rt: HostRuntime) -> Result<(), Fail> {
+    let alloc = rt.alloc();
+    let schema = sample(alloc)?;
+    let row = sample_row(alloc, 0, 7)?;
+    let fields = schema.fields.as_slice();
+    let cells = row.cells.as_slice();
+    assert!(rt; fit_cells(false, true, 1, fields, cells));
+    assert!(rt; fit_cells(true, false, 2, fields, cells));
+    assert!(rt; !fit_cells(true, true, 2, fields, cells));
+    assert!(rt; !fit_cells(false, true, 1, fields, cells.split_at(1).0));
     Ok(())
 }

@@ -1,4 +1,4 @@
-ghost use Rattle.std.specs.Prelude.{◌≡◌, ◌<◌, ◌≤◌, ◌↔◌, length, Some, None, IfOk, IsErr, pos, neg_ℤ, ◌+ℤ◌, ◌-ℤ◌, ◌*ℤ◌, IfSome};
+ghost use Rattle.std.specs.Prelude.{◌≡◌, ◌<◌, ◌≤◌, ◌↔◌, length, Some, None, IfOk, IsErr, pos, neg_ℤ, ◌+ℤ◌, ◌-ℤ◌, ◌*ℤ◌, IfSome, IsTrue};
 ghost use Rattle.time_text.specs.Instant as Instant;
 ghost use Rattle.time_text.specs.Instant.{instant_of, IsInstant};
 ghost use Rattle.jiff_core.specs.Calendar.{IsBetween, IsEpochDay};
@@ -16,6 +16,13 @@ const LAST: i64 = 253_402_300_799_999;
 #[derive(Clone, Copy, Debug, PartialEq, Eq, Error)]
 #[error("not an instant")]
 pub struct NotInstant;
+
+/// Whether a number of milliseconds since 1970-01-01T00:00:00Z is an instant: from 0 to the last of the year 9999.
+pub fn is_instant(time: i64) -> bool
+    ensures { IsTrue result ↔ IsInstant time }
+{
+    0 <= time && time <= LAST
+}
 
 /// Reads an instant, in milliseconds since 1970-01-01T00:00:00Z.
 ///
@@ -40,7 +47,7 @@ pub fn instant_in(text: &[u8]) -> Option<i64>
     ensures in_range { IfSome result IsInstant }
 {
     let written = written_of(text)?;
-    if 0 <= written && written <= LAST {
+    if is_instant(written) {
         Some(written)
     } else {
         None

@@ -14,7 +14,7 @@ mod shapes;
 mod tests;
 mod units;
 
-pub use instants::{NotInstant, read_instant};
+pub use instants::{NotInstant, is_instant, read_instant};
 pub use intervals::{Interval, NotInterval};
 pub use laws::{
     bucket_is_greatest, buckets_nest, interval_reads_back, printed_dates_are_civil,

@@ -200,3 +200,10 @@ fn reads_moments(rt: HostRuntime) {
         assert_eq!(rt; read_moment_expr(text, now), moment, "at {text}");
     }
 }
+
+#[test]
+fn tells_instants(rt: HostRuntime) {
+    for (time, is) in [(0, true), (LAST, true), (-1, false), (LAST + 1, false)] {
+        assert_eq!(rt; is_instant(time), is, "at {time}");
+    }
+}

@@ -17,13 +17,10 @@ use json_walk::{has_names, whole};
 use row_cells::{FieldType, Scalar};
 use serde_json::{Number, Value};
 use std::alloc::Global;
-use time_text::read_instant;
+use time_text::{is_instant, read_instant};
 
 /// The most bytes that a keyword has.
 const KEYWORD_LIMIT: usize = 32_766;
-
-/// The last instant, at the end of the year 9999.
-const LAST_INSTANT: i64 = 253_402_300_799_999;
 
 fn date_of(leaf: &Value) -> Option<i64>
     ensures value { result ≡ spec.date_of (view leaf.now) }
@@ -40,11 +37,7 @@ fn in_range(time: i64) -> Option<i64>
     ensures value { result ≡ in_instants time }
     ensures fits { IfSome result IsInstant }
 {
-    if 0 <= time && time <= LAST_INSTANT {
-        Some(time)
-    } else {
-        None
-    }
+    if is_instant(time) { Some(time) } else { None }
 }
 
 fn flag_text(flag: bool) -> &'static str
