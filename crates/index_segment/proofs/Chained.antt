@@ -1,0 +1,30 @@
+-- Rows that stand each behind the one before it are in row order.
+use Rattle.std.specs.Prelude.{◌≡◌, ◌↔◌, List, [], ◌∷◌}
+use Rattle.std.specs.Cmp.{IsTotalOrder, int_cmp_total, on_total, then_total, back_total}
+use Rattle.std.specs.declared.cmp.Ordering.TheVariants.{Less}
+use Rattle.std.proofs.lemmas.Cmp.{nat_list_cmp_total}
+use Rattle.row_cells.specs.declared.rows.Row.{Row}
+use Rattle.row_cells.specs.Each.{Each-weaker}
+use Rattle.row_cells.specs.Order.{row_cmp}
+use Rattle.row_cells.specs.RowLists.{AllAfter, AreInRowOrder}
+use Rattle.index_segment.specs.Order.{AreBehind}
+
+row_total : IsTotalOrder row_cmp
+row_total = then_total (on_total (λ row. row.key) nat_list_cmp_total) (back_total (on_total (λ row. row.time) int_cmp_total))
+
+-- what stands before a row stands before all that it stands before
+all_after : (first row : Row) (rows : List Row) → row_cmp first row ≡ Less → AllAfter row rows → AllAfter first rows
+all_after first row rows less after = Each-weaker (λ next. row_cmp row next ≡ Less) (λ next. row_cmp first next ≡ Less) (λ next later. row_total.trans first row next less later) rows after
+
+in_order : (before : Row) (rows : List Row) → AreBehind before rows → AreInRowOrder (before ∷ rows)
+in_order before [] are = (tt, tt)
+in_order before (row ∷ rows) are =
+    let rest = in_order row rows are.1 in
+    ((are.0, all_after before row rows are.0 rest.0), rest)
+
+behind : (before : Row) (rows : List Row) → AreInRowOrder (before ∷ rows) → AreBehind before rows
+behind before [] are = tt
+behind before (row ∷ rows) are = (are.0.0, behind row rows are.1)
+
+pub chained : (before : Row) (rows : List Row) → AreBehind before rows ↔ AreInRowOrder (before ∷ rows)
+chained before rows = (in_order before rows, behind before rows)

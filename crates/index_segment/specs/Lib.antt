@@ -1,0 +1,16 @@
+pub mod Cells
+pub mod Columns
+pub mod Directory
+pub mod Forms
+pub mod Heads
+pub mod Held
+pub mod Joining
+pub mod Looks
+pub mod Merging
+pub mod Order
+pub mod Parts
+pub mod Rows
+pub mod Samples
+pub mod Spelling
+pub mod Texts
+pub mod Turns

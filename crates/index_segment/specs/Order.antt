@@ -1,0 +1,36 @@
+-- Keys in byte order, and rows in row order, by their neighbours and by their places.
+use Rattle.std.specs.Prelude.{◌≡◌, ◌≢◌, ℕ, ℤ, pos, ◌<ℤ◌, ◌+◌, ◌-◌, ◌/◌, ◌<◌, ◌≤◌, List, [], ◌∷◌, length, slice_index_or}
+use Rattle.std.specs.Ordering.{nat_cmp}
+use Rattle.std.specs.Cmp.Lexicographic.{slice_cmp}
+use Rattle.std.specs.declared.cmp.Ordering.TheVariants.{Less}
+use Rattle.row_cells.specs.declared.rows.Row.{Row}
+use Rattle.row_cells.specs.Order.{row_cmp}
+
+-- the first of the rows stands behind a row, and each of the others behind the one before it
+abbrev pub AreBehind : Row → List Row → Type 0
+AreBehind before [] = Unit {0}
+AreBehind before (row ∷ rows) = (row_cmp before row ≡ Less) × AreBehind row rows
+
+-- each key stands before those behind it
+abbrev pub Ascend : List (List ℕ) → Type 0
+Ascend keys = (i j : ℕ) → i < j → j < length keys → slice_cmp nat_cmp (slice_index_or keys i []) (slice_index_or keys j []) ≡ Less
+
+-- the times from one place up to another fall
+abbrev pub Fall : List ℤ → ℕ → ℕ → Type 0
+Fall times from to = (i j : ℕ) → from ≤ i → i < j → j < to → slice_index_or times j (pos 0) <ℤ slice_index_or times i (pos 0)
+
+-- in how many blocks of 128 the places from one up to another lie
+abbrev pub block_count : ℕ → ℕ → ℕ
+block_count from to = (to - 1) / 128 + 1 - from / 128
+
+-- rows from one place up to another have the key, and no others do
+pub record Stands (keys : List (List ℕ)) (key : List ℕ) (a b : ℕ) : Type 0 where
+  pub ordered : a ≤ b
+  pub within : b ≤ length keys
+  pub before : (k : ℕ) → k < a → slice_index_or keys k [] ≢ key
+  pub inside : (k : ℕ) → a ≤ k → k < b → slice_index_or keys k [] ≡ key
+  pub behind : (k : ℕ) → b ≤ k → k < length keys → slice_index_or keys k [] ≢ key
+
+-- no key is the one
+abbrev pub NoneIs : List (List ℕ) → List ℕ → Type 0
+NoneIs keys key = (k : ℕ) → k < length keys → slice_index_or keys k [] ≢ key

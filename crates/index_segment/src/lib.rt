@@ -1,0 +1,32 @@
+//! Sealed rows of one shard as packed columns: a segment is its rows, and its bytes are their one spelling.
+#![tactic(auto)]
+
+mod build;
+mod check;
+mod cut;
+mod directory;
+mod forms;
+mod gather;
+mod heads;
+mod laws;
+mod lookup;
+mod merge;
+mod parse;
+mod pick;
+mod pieces;
+mod read;
+mod remake;
+mod restore;
+mod scan;
+mod segment;
+mod shares;
+mod steps;
+#[cfg(test)]
+mod tests;
+mod texts;
+mod turns;
+mod write;
+
+pub use laws::bytes_tell_rows;
+pub use segment::{Segment, SegmentError};
+pub use steps::Steps;
