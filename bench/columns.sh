@@ -16,7 +16,7 @@ least() {
     done | sort -n | head -1
 }
 
-for case in column_gauge:100 column_fold:100 part_gauge:100000 part_fold:100000; do
+for case in column-gauge:100 column-fold:100 part-gauge:100000 part-fold:100000; do
     name=${case%:*}
     rounds=${case#*:}
     made=$(least "$program" "$name" 0)

@@ -28,7 +28,7 @@ if [ $# -gt 0 ]; then
     exit
 fi
 rustc -O --edition 2021 -o "$peer/time_peer" "$here/time_peer.rs" || exit 1
-for case in time_read time_print; do
+for case in time-read time-print; do
     run_case "$case" 10000000
-    echo "  by hand in Rust $(timed "$peer/time_peer" "$case" 10000000) ns, by the C library $(timed "$peer/time_peer" "${case}_c" 10000000) ns"
+    echo "  by hand in Rust $(timed "$peer/time_peer" "$case" 10000000) ns, by the C library $(timed "$peer/time_peer" "$case-c" 10000000) ns"
 done

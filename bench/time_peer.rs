@@ -158,10 +158,10 @@ fn main() {
     let words: Vec<String> = std::env::args().collect();
     let size = words[2].parse().unwrap();
     let sum = match words[1].as_str() {
-        "time_read" => time_read(size, read),
-        "time_print" => time_print(size, print),
-        "time_read_c" => time_read(size, read_by_c),
-        "time_print_c" => time_print(size, print_by_c),
+        "time-read" => time_read(size, read),
+        "time-print" => time_print(size, print),
+        "time-read-c" => time_read(size, read_by_c),
+        "time-print-c" => time_print(size, print_by_c),
         _ => panic!("no such case"),
     };
     println!("{sum}");

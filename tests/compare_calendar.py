@@ -1,4 +1,4 @@
-"""Compares what `tsds_bench time_table` reads from random texts with Python's datetime.
+"""Compares what `tsds_bench time-table` reads from random texts with Python's datetime.
 
     python3 compare_calendar.py PROGRAM [SEED] [COUNT]
 
@@ -78,7 +78,7 @@ def main():
     count = int(sys.argv[3]) if len(sys.argv) > 3 else 20_000
     source = random.Random(seed)
     texts = [random_text(source) for _ in range(count)]
-    run = subprocess.run([program, "time_table", "0"], input="".join(t + "\n" for t in texts).encode(), stdout=subprocess.PIPE, check=True)
+    run = subprocess.run([program, "time-table", "0"], input="".join(t + "\n" for t in texts).encode(), stdout=subprocess.PIPE, check=True)
     replies = run.stdout.decode().splitlines()
     wrong = abs(len(replies) - count)
     readable = 0

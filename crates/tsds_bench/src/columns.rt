@@ -1,5 +1,5 @@
-//! A column of 1,000,000 random numbers of 17 bits, and then SIZE folds of it: `column_gauge` and `column_fold` over all
-//! rows, `part_gauge` and `part_fold` over 1,000 rows in the middle. With SIZE 0 the column is made and nothing is folded.
+//! A column of 1,000,000 random numbers of 17 bits, and then SIZE folds of it: `column-gauge` and `column-fold` over all
+//! rows, `part-gauge` and `part-fold` over 1,000 rows in the middle. With SIZE 0 the column is made and nothing is folded.
 
 use column_block::{Column, Values, halves_of};
 use edge_face::NoMemory;
@@ -14,10 +14,10 @@ const PART: (u32, u32) = (499_500, 500_500);
 /// A sum over what a case gives, or `None` where the text names no case.
 pub fn run(alloc: Global, case: &str, size: u64) -> Result<Option<u64>, NoMemory> {
     let (by_summaries, from, to) = match case {
-        "column_gauge" => (true, 0, ROWS),
-        "column_fold" => (false, 0, ROWS),
-        "part_gauge" => (true, PART.0, PART.1),
-        "part_fold" => (false, PART.0, PART.1),
+        "column-gauge" => (true, 0, ROWS),
+        "column-fold" => (false, 0, ROWS),
+        "part-gauge" => (true, PART.0, PART.1),
+        "part-fold" => (false, PART.0, PART.1),
         _ => return Ok(None),
     };
     let rows = random_rows(alloc)?;

@@ -79,7 +79,7 @@ fn row_of(alloc: Global, schema: &Schema, series: u32, turn: u32) -> Result<Row>
 }
 
 /// Whether a row comes behind all of these.
-fn is_behind(rows: &[Row], row: &Row) -> bool
+pub fn is_behind(rows: &[Row], row: &Row) -> bool
     requires { AreInRowOrder rows.now }
     ensures { IsTrue result → Each (λ before. row_cmp before row.now ≡ Less) rows.now }
 {

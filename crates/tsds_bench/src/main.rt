@@ -6,13 +6,42 @@ mod blocks;
 mod columns;
 mod documents;
 mod fold_rows;
+mod script_rows;
+mod segments;
 mod templates;
 mod time_print;
 mod time_read;
 mod time_table;
 
 use anyhow::{Result, bail};
+use std::alloc::Global;
 use std::env;
+
+/// The sum of a case over packed numbers.
+fn packed(alloc: Global, case: &str, size: u64) -> Result<u64> {
+    let sum = match columns::run(alloc, case, size)? {
+        Some(sum) => Some(sum),
+        None => blocks::run(alloc, case, size)?,
+    };
+    match sum {
+        Some(sum) => Ok(sum),
+        None => bail!("no such case"),
+    }
+}
+
+/// The sum of a case, by the part of its name that says what is timed.
+fn sum_of(alloc: Global, case: &str, size: u64) -> Result<u64> {
+    let Some((what, rest)) = case.split_once('-') else {
+        bail!("no such case");
+    };
+    match what {
+        "fold" => fold_rows::run(alloc, rest, size),
+        "template" => templates::run(alloc, rest.parse()?, size),
+        "documents" => documents::run(alloc, rest, size),
+        "segment" => segments::run(alloc, rest, size),
+        _ => packed(alloc, case, size),
+    }
+}
 
 fn main(rt: HostRuntime) -> Result<()> {
     let words: Vec<String> = env::args(&rt)?.collect(rt.alloc())?;
@@ -21,35 +50,11 @@ fn main(rt: HostRuntime) -> Result<()> {
     };
     let size: u64 = size.as_str().parse()?;
     match case.as_str() {
-        "fold-rows" | "fold-once" | "fold-often" => {
-            let sum = fold_rows::run(rt.alloc(), &case.as_str()[5..], size)?;
-            println!(rt; "{case} {size} {sum}")?;
-        }
-        "template-250" | "template-500" | "template-1000" => {
-            let fields: u64 = case.as_str()[9..].parse()?;
-            let sum = templates::run(rt.alloc(), fields, size)?;
-            println!(rt; "{case} {size} {sum}")?;
-        }
-        "documents-made"
-        | "documents-read"
-        | "documents-typed"
-        | "documents-keyed"
-        | "documents-rebuilt"
-        | "documents-printed" => {
-            let sum = documents::run(rt.alloc(), &case.as_str()[10..], size)?;
-            println!(rt; "{case} {size} {sum}")?;
-        }
-        "time_print" => time_print::run(&rt, size)?,
-        "time_read" => time_read::run(&rt, rt.alloc(), size)?,
-        "time_table" => time_table::run(&rt)?,
+        "time-print" => time_print::run(&rt, size)?,
+        "time-read" => time_read::run(&rt, rt.alloc(), size)?,
+        "time-table" => time_table::run(&rt)?,
         case => {
-            let sum = match columns::run(rt.alloc(), case, size)? {
-                Some(sum) => Some(sum),
-                None => blocks::run(rt.alloc(), case, size)?,
-            };
-            let Some(sum) = sum else {
-                bail!("no such case");
-            };
+            let sum = sum_of(rt.alloc(), case, size)?;
             println!(rt; "{case} {size} {sum}")?;
         }
     }

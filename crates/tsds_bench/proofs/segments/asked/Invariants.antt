@@ -1,0 +1,4 @@
+use Rattle.tsds_bench.proofs.segments.asked.Given as goal
+
+abbrev pub ghosts-finds : goal.ghosts-finds
+ghosts-finds a = record { name = a.blank.name; parts = a.blank.parts }
