@@ -1,5 +1,5 @@
 -- How what a device tells changes over several calls.
-use Rattle.std.proofs.Common.{◌≡◌, ◌∙◌, ℕ, ◌+◌, ◌-◌, length, take, drop, length-drop, List, [], ◌∷◌, ◌++◌, Option, Some, None, refl, ap, sym, append_assoc, append-nil}
+use Rattle.std.proofs.Common.{◌≡◌, ◌∙◌, ℕ, ◌+◌, ◌-◌, length, take, drop, length-drop, List, [], ◌++◌, Option, Some, None, refl, ap, sym, append_assoc, append-nil}
 use Rattle.std.proofs.Math.Seq.{take-add, take-length}
 use Rattle.edge_face.specs.Contents.{appended, preceded}
 

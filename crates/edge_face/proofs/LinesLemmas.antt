@@ -1,45 +1,13 @@
--- Where the first piece ends.
-use Rattle.std.proofs.Common.{◌≡◌, ◌≢◌, ◌∙◌, ℕ, zero, suc, ◌+◌, ◌-◌, ◌<◌, ◌≤◌, ◌==◌, Bool, true, false, cond, nat_lt, ◌&&◌, Option, None, Some, IfSome, add-one, append-nil, List, [], ◌∷◌, ◌++◌, length, take, drop, refl, ap, sym, arith, eq-eqb, length-take, get_or}
+-- Which piece the bytes that wait show.
+use Rattle.std.proofs.Common.{◌≡◌, ◌∙◌, ℕ, suc, ◌+◌, ◌-◌, ◌<◌, ◌≤◌, ◌==◌, inl, inr, Bool, true, false, cond, nat_lt, ◌&&◌, Option, None, Some, IfSome, add-one, append-nil, List, [], ◌∷◌, ◌++◌, length, take, drop, refl, ap, sym, arith, eq-eqb, length-take}
 use Rattle.std.specs.List.{slice_index}
 use Rattle.std.specs.Io.BufRead.{strip_last, ends_with_byte}
 use Rattle.std.proofs.lemmas.Bool.{ne_eqb}
 use Rattle.std.proofs.lemmas.List.{get_or-take}
 use Rattle.std.proofs.Math.Seq.{take-length, drop-length}
 use Rattle.std.proofs.lemmas.Bool.{lt-ltb}
-use Rattle.edge_face.specs.Lines.{piece_of, after_piece, NoNewlineBelow, HasNoNewline, IsNewlineAt, ShowsPiece, line_limit}
-
--- what holds of the bytes behind the first
-below_tail : (n x : ℕ) (xs : List ℕ) → NoNewlineBelow (suc n) (x ∷ xs) → NoNewlineBelow n xs
-below_tail n x xs none = λ k below. none (suc k) (omega arith)
-
--- a piece that ends at the first newline
-pub piece-at : (bytes more : List ℕ) (at : ℕ) → IsNewlineAt bytes at → piece_of (bytes ++ more) ≡ take (suc at) bytes
-piece-at [] more at is = absurd (omega (arith, is.inside))
-piece-at (x ∷ xs) more zero is = ap (λ b. cond b (x ∷ []) (x ∷ piece_of (xs ++ more))) (eq-eqb x 10 is.newline)
-piece-at (x ∷ xs) more (suc k) is =
-    ap (λ b. cond b (x ∷ []) (x ∷ piece_of (xs ++ more))) (ne_eqb x 10 (is.before 0 (omega arith)))
-    ∙ ap (λ l. x ∷ l) (piece-at xs more k (record { inside = omega (arith, is.inside); newline = is.newline; before = below_tail k x xs is.before }))
-
--- and what follows it
-pub after-at : (bytes more : List ℕ) (at : ℕ) → IsNewlineAt bytes at → after_piece (bytes ++ more) ≡ drop (suc at) bytes ++ more
-after-at [] more at is = absurd (omega (arith, is.inside))
-after-at (x ∷ xs) more zero is = ap (λ b. cond b (xs ++ more) (after_piece (xs ++ more))) (eq-eqb x 10 is.newline)
-after-at (x ∷ xs) more (suc k) is =
-    ap (λ b. cond b (xs ++ more) (after_piece (xs ++ more))) (ne_eqb x 10 (is.before 0 (omega arith)))
-    ∙ after-at xs more k (record { inside = omega (arith, is.inside); newline = is.newline; before = below_tail k x xs is.before })
-
--- bytes without a newline belong to the first piece
-pub piece-none : (bytes more : List ℕ) → HasNoNewline bytes → piece_of (bytes ++ more) ≡ bytes ++ piece_of more
-piece-none [] more none = refl
-piece-none (x ∷ xs) more none =
-    ap (λ b. cond b (x ∷ []) (x ∷ piece_of (xs ++ more))) (ne_eqb x 10 (none 0 (omega arith)))
-    ∙ ap (λ l. x ∷ l) (piece-none xs more (λ k below. none (suc k) (omega arith)))
-
-pub after-none : (bytes more : List ℕ) → HasNoNewline bytes → after_piece (bytes ++ more) ≡ after_piece more
-after-none [] more none = refl
-after-none (x ∷ xs) more none =
-    ap (λ b. cond b (xs ++ more) (after_piece (xs ++ more))) (ne_eqb x 10 (none 0 (omega arith)))
-    ∙ after-none xs more (λ k below. none (suc k) (omega arith))
+use Rattle.edge_face.specs.LinesLaws.{piece-at, after-at, piece-none, after-none}
+use Rattle.edge_face.specs.Lines.{piece_of, after_piece, HasNoNewline, IsNewlineAt, EndsInNewline, ShowsPiece}
 
 -- without a newline at its end nothing is cut
 pub strip-none : (bytes : List ℕ) → HasNoNewline bytes → strip_last 10 bytes ≡ bytes
@@ -69,16 +37,42 @@ strip-at bytes at is =
     let inside : at < length bytes = is.inside in
     strip-hit (take (suc at) bytes) at (omega (arith, length-take (suc at) bytes)) (get_or-take (suc at) bytes at 0 (omega arith) ∙ is.newline)
 
+-- the first newline stands in what it ends
+at-front : (waiting : List ℕ) (at : ℕ) → IsNewlineAt waiting at → IsNewlineAt (take (suc at) waiting) at
+at-front waiting at is =
+    let inside : at < length waiting = is.inside in
+    record {
+      inside = omega (arith, length-take (suc at) waiting);
+      newline = get_or-take (suc at) waiting at 0 (omega arith) ∙ is.newline;
+      before = λ k below. λ hit. is.before k below (sym (get_or-take (suc at) waiting k 0 (omega arith)) ∙ hit);
+    }
+
+ends-at : (waiting : List ℕ) (at : ℕ) → IsNewlineAt waiting at → EndsInNewline (suc at) waiting
+ends-at waiting at is =
+    let inside : at < length waiting = is.inside in
+    let front : List ℕ = take (suc at) waiting in
+    let here = at-front waiting at is in
+    let count : length front ≡ suc at = omega (arith, length-take (suc at) waiting) in
+    let last : length front - 1 ≡ at = omega (arith, count) in
+    let whole : take (suc at) front ≡ front = ap (λ n. take n front) (sym count) ∙ take-length front in
+    let none : drop (suc at) front ≡ [] = ap (λ n. drop n front) (sym count) ∙ drop-length front in
+    record {
+      some = omega arith;
+      ends = ap (λ v. v && (slice_index front (length front - 1) == 10)) (lt-ltb 0 (length front) (omega (arith, count))) ∙ eq-eqb (slice_index front (length front - 1)) 10 (ap (slice_index front) last ∙ here.newline);
+      piece = λ more. piece-at front more at here ∙ whole;
+      after = λ more. after-at front more at here ∙ ap (λ l. l ++ more) none;
+    }
+
 -- bytes up to the first newline show a piece
-pub shows-newline : (waiting : List ℕ) (at : ℕ) (left : Option (List ℕ)) → IsNewlineAt waiting at → length waiting ≤ line_limit + 1 → ShowsPiece (at + 1) waiting left
-shows-newline waiting at left is few =
+pub shows-newline : (waiting : List ℕ) (at : ℕ) (ended : Bool) (left : Option (List ℕ)) → IsNewlineAt waiting at → ShowsPiece (at + 1) waiting ended left
+shows-newline waiting at ended left is =
     let inside : at < length waiting = is.inside in
     rw (add-one at) (record {
       inside = omega arith;
-      short = omega (arith, strip-at waiting at is);
       piece = told left;
       after = then left;
       none = λ zero. absurd (omega arith);
+      how = inl (ends-at waiting at is);
     })
   where
     told : (left : Option (List ℕ)) → IfSome left (λ rest. piece_of (waiting ++ rest) ≡ take (suc at) waiting)
@@ -90,15 +84,14 @@ shows-newline waiting at left is few =
     then (Some rest) = after-at waiting rest at is
 
 -- bytes without a newline show a piece at the end
-pub shows-end : (waiting : List ℕ) (left : Option (List ℕ)) → HasNoNewline waiting → length waiting ≤ line_limit → IfSome left (λ rest. rest ≡ []) → ShowsPiece (length waiting) waiting left
-shows-end waiting left none few end =
-    let whole : take (length waiting) waiting ≡ waiting = take-length waiting in
+pub shows-end : (waiting : List ℕ) (ended : Bool) (left : Option (List ℕ)) → ended ≡ true → HasNoNewline waiting → IfSome left (λ rest. rest ≡ []) → ShowsPiece (length waiting) waiting ended left
+shows-end waiting ended left is none end =
     record {
       inside = omega arith;
-      short = omega (arith, ap (λ l. length (strip_last 10 l)) whole, ap length (strip-none waiting none));
       piece = told left end;
       after = behind left end;
       none = λ zero. (no_bytes waiting zero, end);
+      how = inr (record { source = is; all = refl; none = none });
     }
   where
     no_bytes : (bytes : List ℕ) → length bytes ≡ 0 → bytes ≡ []
@@ -112,3 +105,13 @@ shows-end waiting left none few end =
     behind : (left : Option (List ℕ)) → IfSome left (λ rest. rest ≡ []) → IfSome left (λ rest. after_piece (waiting ++ rest) ≡ drop (length waiting) waiting ++ rest)
     behind None end = tt
     behind (Some rest) end = after-none waiting rest none ∙ ap after_piece end ∙ sym (ap (λ l. l ++ rest) (drop-length waiting) ∙ end)
+
+-- a line with its newline is shorter than what waits; one that ends the input is what waits
+pub newline-short : (waiting : List ℕ) (at : ℕ) → IsNewlineAt waiting at → length (strip_last 10 (take (at + 1) waiting)) < length waiting
+newline-short waiting at is =
+    let inside : at < length waiting = is.inside in
+    rw (add-one at) (omega (arith, strip-at waiting at is))
+
+pub end-short : (waiting : List ℕ) → HasNoNewline waiting → length (strip_last 10 (take (length waiting) waiting)) ≤ length waiting
+end-short waiting none =
+    omega (arith, ap (λ l. length (strip_last 10 l)) (take-length waiting), ap length (strip-none waiting none))

@@ -1,11 +1,12 @@
 -- Ranges of a buffer.
-use Rattle.std.proofs.Common.{◌++◌, ◌≡◌, ◌∙◌, ℕ, ◌+◌, ◌-◌, ◌≤◌, length, take, drop, List, sym, ap, arith, length-drop, length-take}
+use Rattle.std.proofs.Common.{◌++◌, ◌≡◌, ◌∙◌, ℕ, ◌+◌, ◌-◌, ◌≤◌, length, take, drop, List, sym, ap, arith, length-drop, length-take, append_assoc, append-nil, []}
 use Rattle.std.specs.List.{slice_range, slice_index}
 use Rattle.std.proofs.Math.ListN.{get_or-append}
 use Rattle.std.specs.Prelude.{Option}
 use Rattle.edge_face.specs.Contents.{preceded}
 use Rattle.edge_face.specs.Lines.{NoNewlineBelow}
-use Rattle.edge_face.proofs.ContentsLemmas.{preceded-preceded}
+use Rattle.edge_face.specs.Waiting.{Grew}
+use Rattle.edge_face.proofs.ContentsLemmas.{preceded-preceded, preceded-nothing}
 use Rattle.std.proofs.lemmas.List.{drop-take, drop-drop}
 use Rattle.std.proofs.Math.Seq.{take-add}
 
@@ -25,17 +26,29 @@ slice_range-same xs ys i j order same =
     let spans : i + (j - i) ≡ j = omega arith in
     sym (drop-take i (j - i) xs) ∙ ap (λ n. drop i (take n xs)) spans ∙ ap (drop i) same ∙ sym (ap (λ n. drop i (take n ys)) spans) ∙ drop-take i (j - i) ys
 
--- a range that goes on
-pub slice_range-more : {A : Type 0} (xs : List A) (i j n : ℕ) → i ≤ j → slice_range xs i (j + n) ≡ slice_range xs i j ++ slice_range xs j (j + n)
-slice_range-more xs i j n order =
-    let spans : (j + n) - i ≡ (j - i) + n = omega arith in
-    let rest : (j + n) - j ≡ n = omega arith in
-    let from : i + (j - i) ≡ j = omega arith in
-    ap (λ k. take k (drop i xs)) spans ∙ take-add (j - i) n (drop i xs) ∙ ap (λ l. slice_range xs i j ++ take n l) (drop-drop (j - i) i xs ∙ ap (λ k. drop k xs) from) ∙ ap (λ k. slice_range xs i j ++ take k (drop j xs)) (sym rest)
-
 -- bytes that wait, then bytes just taken: together with what is left they are what waited and was left
 pub grown-kept : (waiting more : List ℕ) (old new : Option (List ℕ)) (now : List ℕ) → now ≡ waiting ++ more → old ≡ preceded more new → preceded now new ≡ preceded waiting old
 grown-kept waiting more old new now is taken = ap (λ l. preceded l new) is ∙ sym (preceded-preceded waiting more new) ∙ ap (preceded waiting) (sym taken)
+
+-- what was taken waits
+pub grew : (before more now : List ℕ) (old new : Option (List ℕ)) → now ≡ before ++ more → old ≡ preceded more new → Grew before now old new
+grew before more now old new is taken = record { more = more; waits = is; taken = taken }
+
+-- nothing was taken
+pub grew-nothing : (before now : List ℕ) (old new : Option (List ℕ)) → now ≡ before → new ≡ old → Grew before now old new
+grew-nothing before now old new same left = record { more = []; waits = same ∙ sym (append-nil before); taken = sym left ∙ sym (preceded-nothing new) }
+
+-- first some, then more
+pub grew-grew : (before middle now : List ℕ) (first second third : Option (List ℕ)) → Grew before middle first second → Grew middle now second third → Grew before now first third
+grew-grew before middle now first second third one two = record {
+  more = one.more ++ two.more;
+  waits = two.waits ∙ ap (λ l. l ++ two.more) one.waits ∙ append_assoc before one.more two.more;
+  taken = one.taken ∙ ap (preceded one.more) two.taken ∙ preceded-preceded one.more two.more third;
+}
+
+-- together they are what they were
+pub grew-kept-all : (before now : List ℕ) (old new : Option (List ℕ)) → Grew before now old new → preceded now new ≡ preceded before old
+grew-kept-all before now old new g = grown-kept before g.more old new now g.waits g.taken
 
 -- what holds below n in the front holds there in the whole
 pub NoNewlineBelow-append : (n : ℕ) (front more whole : List ℕ) → n ≤ length front → whole ≡ front ++ more → NoNewlineBelow n front → NoNewlineBelow n whole

@@ -1,4 +1,12 @@
 pub mod Contents
+pub mod Limits
 pub mod Lines
+pub mod LinesLaws
+pub mod Links
 pub mod Memory
+pub mod Moments
+pub mod RangeLaws
 pub mod Reading
+pub mod Table
+pub mod Texts
+pub mod Waiting

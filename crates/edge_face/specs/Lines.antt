@@ -1,6 +1,7 @@
 -- Pieces and lines of bytes. A piece runs up to and with its newline, or to the end.
-use Rattle.std.specs.Prelude.{◌≡◌, ◌≢◌, ℕ, ◌+◌, ◌<◌, ◌≤◌, ◌==◌, List, [], ◌∷◌, ◌++◌, length, take, drop, Option, MatchOption, IfSome, slice_index, if◌then◌else◌}
-use Rattle.std.specs.Io.BufRead.{take_through, drop_through, strip_last}
+use Rattle.std.specs.Prelude.{◌≡◌, ◌≢◌, ℕ, ◌<◌, ◌≤◌, ◌==◌, ◌⊎◌, Bool, true, List, [], ◌∷◌, ◌++◌, length, take, drop, Option, MatchOption, IfSome, slice_index, if◌then◌else◌}
+use Rattle.std.specs.Io.BufRead.{take_through, drop_through, strip_last, ends_with_byte}
+use Rattle.edge_face.specs.Limits.{line_limit}
 
 -- the first piece of the bytes, and what follows it
 abbrev pub piece_of : List ℕ → List ℕ
@@ -41,21 +42,27 @@ pub record IsNewlineAt (bytes : List ℕ) (at : ℕ) : Type 0 where
 abbrev pub IsFirstNewline : List ℕ → Option ℕ → Type 0
 IsFirstNewline bytes found = MatchOption found (HasNoNewline bytes) (λ at. IsNewlineAt bytes at)
 
--- how many bytes a line may have before its newline or the end, and how many bytes an input may have
-abbrev pub line_limit : ℕ
-line_limit = 1048576
-
-abbrev pub input_limit : ℕ
-input_limit = 68719476736
-
 -- the piece has more bytes before its newline or the end than a line may have
 abbrev pub IsLongPiece : List ℕ → Type 0
 IsLongPiece piece = line_limit < length (strip_last 10 piece)
 
+-- a newline ends the first n of the bytes that wait, so they are a piece whatever follows them
+pub record EndsInNewline (n : ℕ) (waiting : List ℕ) : Type 0 where
+  pub some : 0 < n
+  pub ends : ends_with_byte 10 (take n waiting) ≡ true
+  pub piece : (more : List ℕ) → piece_of (take n waiting ++ more) ≡ take n waiting
+  pub after : (more : List ℕ) → after_piece (take n waiting ++ more) ≡ more
+
+-- the source has ended, and these n bytes are all that wait and have no newline
+pub record EndsInput (n : ℕ) (waiting : List ℕ) (ended : Bool) : Type 0 where
+  pub source : ended ≡ true
+  pub all : n ≡ length waiting
+  pub none : HasNoNewline waiting
+
 -- the first n of the bytes that wait are the first piece of these and what is left; 0 where nothing is left
-pub record ShowsPiece (n : ℕ) (waiting : List ℕ) (left : Option (List ℕ)) : Type 0 where
+pub record ShowsPiece (n : ℕ) (waiting : List ℕ) (ended : Bool) (left : Option (List ℕ)) : Type 0 where
   pub inside : n ≤ length waiting
-  pub short : length (strip_last 10 (take n waiting)) ≤ line_limit
   pub piece : IfSome left (λ rest. piece_of (waiting ++ rest) ≡ take n waiting)
   pub after : IfSome left (λ rest. after_piece (waiting ++ rest) ≡ drop n waiting ++ rest)
   pub none : n ≡ 0 → (waiting ≡ []) × IfSome left (λ rest. rest ≡ [])
+  pub how : EndsInNewline n waiting ⊎ EndsInput n waiting ended

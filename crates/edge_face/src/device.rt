@@ -1,4 +1,4 @@
-ghost use Rattle.std.specs.Prelude.{◌≡◌, ℕ, ◌+◌, ◌<◌, ◌≤◌, List, [], length, take, Option, IfOk, IfErr, IfSome, OnOk, OnErr, Ok, Some};
+ghost use Rattle.std.specs.Prelude.{◌≡◌, ℕ, ◌+◌, ◌<◌, ◌≤◌, List, [], length, take, Option, None, IfOk, IfErr, IfSome, OnOk, OnErr, Ok, Some};
 ghost use Rattle.edge_face.specs.Contents.{appended, preceded, Rose};
 
 use thiserror::Error;
@@ -16,6 +16,9 @@ pub trait Source {
 
     ghost faults: { Self → ℕ };
 
+    /// What else the device has, which a take leaves as it was: the contents and the faults of its other side.
+    ghost beside: { Self → Option (List ℕ) × ℕ } = { λ _. (None, 0) };
+
     /// Takes bytes into the front of `into`, and answers how many. No byte is the end of the input, unless `into` is empty.
     fn take(&mut self, into: &mut [u8]) -> Result<usize, Failed>
         ensures within { IfOk result (λ n. n ≤ length into.old) }
@@ -23,7 +26,8 @@ pub trait Source {
         ensures end { result ≡ Ok 0 → 0 < length into.old → IfSome (left self.new) (λ rest. rest ≡ []) }
         ensures failed { OnErr result (left self.new ≡ left self.old) }
         ensures counted { faults self.old ≤ faults self.new }
-        ensures caused { OnErr result (Rose (faults self.old) (faults self.new)) };
+        ensures caused { OnErr result (Rose (faults self.old) (faults self.new)) }
+        ensures beside { beside self.new ≡ beside self.old };
 }
 
 /// A device that bytes are put to.
@@ -34,6 +38,9 @@ pub trait Sink {
 
     ghost faults: { Self → ℕ };
 
+    /// What else the device has, which a put leaves as it was: the contents and the faults of its other side.
+    ghost beside: { Self → Option (List ℕ) × ℕ } = { λ _. (None, 0) };
+
     /// Puts some of the first bytes of `piece`, and answers how many: at least one where there is one.
     fn put(&mut self, piece: &[u8]) -> Result<usize, Failed>
         ensures within { IfOk result (λ n. n ≤ length piece.now) }
@@ -41,7 +48,8 @@ pub trait Sink {
         ensures put { IfOk result (λ n. given self.new ≡ appended (given self.old) (take n piece.now)) }
         ensures failed { OnErr result (given self.new ≡ given self.old) }
         ensures counted { faults self.old ≤ faults self.new }
-        ensures caused { OnErr result (Rose (faults self.old) (faults self.new)) };
+        ensures caused { OnErr result (Rose (faults self.old) (faults self.new)) }
+        ensures beside { beside self.new ≡ beside self.old };
 }
 
 /// A sink failed after it had taken the first `gone` bytes.
@@ -58,6 +66,7 @@ pub fn put_all<K: Sink>(sink: &mut K, bytes: &[u8]) -> Result<(), PutFailed>
     ensures failed { IfErr result (λ e. K.given sink.new ≡ appended (K.given sink.old) (take e.gone bytes.now)) }
     ensures counted { K.faults sink.old ≤ K.faults sink.new }
     ensures caused { OnErr result (Rose (K.faults sink.old) (K.faults sink.new)) }
+    ensures beside { K.beside sink.new ≡ K.beside sink.old }
 {
     let mut gone = 0;
     while gone < bytes.len() {

@@ -1,20 +1,20 @@
 //! Lines of a source, in whatever pieces its bytes come.
-ghost use Rattle.std.specs.Prelude.{◌≡◌, ◌≢◌, ℕ, ◌+◌, ◌<◌, ◌≤◌, List, [], length, take, drop, IfOk, IfErr, IfSome, IfNone, OnErr, OnOk, Ok, Err, None, Some};
+ghost use Rattle.std.specs.Prelude.{◌≡◌, ◌≢◌, ◌⊎◌, false, true, ℕ, ◌+◌, ◌<◌, ◌≤◌, List, [], length, take, drop, IfOk, IfErr, IfSome, IfNone, OnErr, OnOk, Ok, Err, None, Some};
 ghost use Rattle.std.specs.Io.BufRead.{strip_last};
-ghost use Rattle.edge_face.specs.Lines.{line_of, input_limit};
+ghost use Rattle.edge_face.specs.Limits.{input_limit};
+ghost use Rattle.edge_face.specs.Lines.{line_of, HasNoNewline};
+ghost use Rattle.edge_face.specs.Waiting.{KnowsEnd, Grew};
 
 use crate::device::Source;
+use crate::limits::{INPUT_LIMIT, LINE_LIMIT};
 use crate::text::{Bytes, NoMemory};
 use crate::window::{NoPiece, Window};
 use std::alloc::Global;
 use std::marker::Model;
 use thiserror::Error;
 
-/// The most bytes that a line may have before its newline or the end.
-pub const LINE_LIMIT: u64 = 1_048_576;
-
-/// The most bytes that the lines of one reader may have together.
-pub const INPUT_LIMIT: u64 = 68_719_476_736;
+/// A window for lines: one byte more than a line may have before its newline.
+const LINE_CAPACITY: usize = LINE_LIMIT as usize + 1;
 
 /// Why a reader gives no line.
 #[derive(Clone, Copy, Debug, PartialEq, Eq, Error)]
@@ -52,16 +52,16 @@ pub struct LineReader {
 }
 
 impl Model for LineReader {
-    ghost use Rattle.std.specs.Prelude.{◌≢◌, ◌≤◌, Some};
-    ghost use Rattle.edge_face.specs.Lines.{input_limit};
+    ghost use Rattle.std.specs.Prelude.{◌≡◌, ◌≢◌, ◌+◌, ◌≤◌, Some};
+    ghost use Rattle.edge_face.specs.Limits.{line_limit, input_limit};
     ghost use Rattle.edge_face.specs.declared.reader.LineError.TheVariants.{NoMemory};
     ghost use Rattle.edge_face.specs.Reading.{Reading};
 
     ghost Value = { Reading };
 
-    ghost view = { λ r. record { pending = r.window; answered = r.answered; refused = r.refused } };
+    ghost view = { λ r. record { pending = r.window.bytes; answered = r.answered; refused = r.refused; ended = r.window.ended } };
 
-    ghost invariant = { λ r. (r.answered ≤ input_limit) × (r.refused ≢ Some NoMemory) };
+    ghost invariant = { λ r. (r.answered ≤ input_limit) × (r.refused ≢ Some NoMemory) × (r.window.capacity ≡ line_limit + 1) };
 }
 
 /// The bytes without their last one, if that is `end`.
@@ -78,10 +78,10 @@ impl LineReader {
     ghost use Rattle.edge_face.specs.Reading.{Reading, ShowsLine, TakesLine, HasEnded, CauseOf, left_of};
 
     pub fn new(alloc: Global) -> Result<LineReader, NoMemory>
-        ensures { IfOk result (λ reader. reader ≡ record { pending = []; answered = 0; refused = None }) }
+        ensures { IfOk result (λ reader. reader ≡ record { pending = []; answered = 0; refused = None; ended = false }) }
     {
         Ok(LineReader {
-            window: Window::new(alloc)?,
+            window: Window::new(alloc, LINE_CAPACITY)?,
             answered: 0,
             refused: None,
         })
@@ -89,17 +89,28 @@ impl LineReader {
 
     /// Finds the next line, and answers how many bytes it has with its end: 0 where no line is left. It takes no memory.
     ///
+    /// Where a newline waits already the source isn't asked, so that a peer's line is answered before its next one comes.
+    ///
     /// `line` lends the line, and `pass` goes on behind it.
     #[tactic(auto, using(crate::proofs::ReadingLemmas::too_long_full))]
     pub fn find_line<S: Source>(&mut self, source: &mut S) -> Result<usize, LineError>
+        requires { KnowsEnd self.old.ended (S.left source.old) }
         ensures kept { left_of self.new (S.left source.new) ≡ left_of self.old (S.left source.old) }
+        ensures grew { Grew self.old.pending self.new.pending (S.left source.old) (S.left source.new) }
+        ensures knows { KnowsEnd self.new.ended (S.left source.new) }
+        ensures still { self.new.ended ≡ false → self.old.ended ≡ false }
+        ensures asks_no_more { self.old.ended ≡ true → source.new ≡ source.old }
         ensures counted { self.new.answered ≡ self.old.answered }
+        ensures within { self.new.answered ≤ input_limit }
         ensures found { IfOk result (λ n. ShowsLine n self.new (S.left source.new)) }
         ensures refused { IfErr result (λ e. self.new.refused ≡ Some e) }
         ensures cause { self.old.refused ≡ None → IfErr result (λ e. CauseOf e self.new (S.left source.new) (S.faults source.old) (S.faults source.new)) }
         ensures again { IfSome self.old.refused (λ e. result ≡ Err e) }
+        ensures untouched { IfSome self.old.refused (λ _. (self.new ≡ self.old) × (source.new ≡ source.old)) }
+        ensures waits { HasNoNewline self.old.pending ⊎ (source.new ≡ source.old) }
         ensures memory { result ≢ Err LineError.NoMemory }
         ensures faults { S.faults source.old ≤ S.faults source.new }
+        ensures beside { S.beside source.new ≡ S.beside source.old }
     {
         if let Some(refused) = self.refused {
             return Err(refused);
@@ -142,7 +153,7 @@ impl LineReader {
     pub fn pass(&mut self, piece: usize)
         requires inside { piece ≤ length self.old.pending }
         requires within { self.old.answered + piece ≤ input_limit }
-        ensures { self.new ≡ record { pending = drop piece self.old.pending; answered = self.old.answered + piece; refused = self.old.refused } }
+        ensures { self.new ≡ record { pending = drop piece self.old.pending; answered = self.old.answered + piece; refused = self.old.refused; ended = self.old.ended } }
     {
         self.window.pass(piece);
         self.answered += piece as u64;
@@ -154,15 +165,23 @@ impl LineReader {
         alloc: Global,
         source: &mut S,
     ) -> Result<Option<Bytes>, LineError>
+        requires { KnowsEnd self.old.ended (S.left source.old) }
         ensures line { IfOk result (λ found. IfSome found (λ line. TakesLine line self.old self.new (S.left source.old) (S.left source.new))) }
         ensures end { IfOk result (λ found. IfNone found (HasEnded self.old self.new (S.left source.old) (S.left source.new))) }
         ensures lost { OnErr result (left_of self.new (S.left source.new) ≡ left_of self.old (S.left source.old)) }
+        ensures grew { OnErr result (Grew self.old.pending self.new.pending (S.left source.old) (S.left source.new)) }
+        ensures knows { KnowsEnd self.new.ended (S.left source.new) }
+        ensures still { self.new.ended ≡ false → self.old.ended ≡ false }
+        ensures asks_no_more { self.old.ended ≡ true → source.new ≡ source.old }
         ensures counted { OnErr result (self.new.answered ≡ self.old.answered) }
         ensures refused { IfErr result (λ e. e ≢ LineError.NoMemory → self.new.refused ≡ Some e) }
         ensures goes_on { result ≡ Err LineError.NoMemory → self.new.refused ≡ None }
         ensures cause { self.old.refused ≡ None → IfErr result (λ e. CauseOf e self.new (S.left source.new) (S.faults source.old) (S.faults source.new)) }
         ensures again { IfSome self.old.refused (λ e. result ≡ Err e) }
+        ensures untouched { IfSome self.old.refused (λ _. (self.new ≡ self.old) × (source.new ≡ source.old)) }
+        ensures waits { HasNoNewline self.old.pending ⊎ (source.new ≡ source.old) }
         ensures faults { S.faults source.old ≤ S.faults source.new }
+        ensures beside { S.beside source.new ≡ S.beside source.old }
     {
         let piece = self.find_line(source)?;
         if piece == 0 {

@@ -1,8 +1,8 @@
-//! Devices over readers and writers of the system. They tell no contents.
-ghost use Rattle.std.specs.Prelude.{◌≡◌};
+//! Devices over readers and writers of the system. They tell no contents, and go on where a call was interrupted.
+ghost use Rattle.std.specs.Prelude.{◌≡◌, ◌<◌, ◌≤◌, length, IfOk};
 
 use crate::device::{Failed, Sink, Source};
-use std::io::{Read, Write};
+use std::io::{ErrorKind, Read, Write};
 use std::marker::Model;
 
 /// A source over a reader, as standard input.
@@ -29,6 +29,20 @@ impl<R: Read + Drop> ReaderSource<R> {
     }
 }
 
+/// Reads once, and again as long as calls are interrupted.
+fn read<R: Read>(reader: &mut R, into: &mut [u8]) -> Result<usize, Failed>
+    ensures { IfOk result (λ n. n ≤ length into.old) }
+{
+    for _ in 0..u64::MAX {
+        match reader.read(into) {
+            Ok(n) => return Ok(n),
+            Err(e) if e.kind() == ErrorKind::Interrupted => {}
+            Err(_) => return Err(Failed),
+        }
+    }
+    Err(Failed)
+}
+
 impl<R: Read + Drop> Source for ReaderSource<R> {
     ghost use Rattle.std.specs.Prelude.{None};
 
@@ -37,13 +51,11 @@ impl<R: Read + Drop> Source for ReaderSource<R> {
     ghost faults = { λ faults. faults };
 
     fn take(&mut self, into: &mut [u8]) -> Result<usize, Failed> {
-        match self.reader.read(into) {
-            Ok(n) => Ok(n),
-            Err(_) => {
-                self.faults = self.faults.saturating_add(1);
-                Err(Failed)
-            }
+        let taken = read(&mut self.reader, into);
+        if taken.is_err() {
+            self.faults = self.faults.saturating_add(1);
         }
+        taken
     }
 }
 
@@ -71,6 +83,21 @@ impl<W: Write + Drop> WriterSink<W> {
     }
 }
 
+/// Writes once, and again as long as calls are interrupted.
+fn write<W: Write>(writer: &mut W, piece: &[u8]) -> Result<usize, Failed>
+    ensures within { IfOk result (λ n. n ≤ length piece.now) }
+    ensures some { IfOk result (λ n. 0 < length piece.now → 0 < n) }
+{
+    for _ in 0..u64::MAX {
+        match writer.write(piece) {
+            Ok(n) if n > 0 || piece.is_empty() => return Ok(n),
+            Err(e) if e.kind() == ErrorKind::Interrupted => {}
+            _ => return Err(Failed),
+        }
+    }
+    Err(Failed)
+}
+
 impl<W: Write + Drop> Sink for WriterSink<W> {
     ghost use Rattle.std.specs.Prelude.{None};
 
@@ -79,12 +106,10 @@ impl<W: Write + Drop> Sink for WriterSink<W> {
     ghost faults = { λ faults. faults };
 
     fn put(&mut self, piece: &[u8]) -> Result<usize, Failed> {
-        match self.writer.write(piece) {
-            Ok(n) if n > 0 || piece.is_empty() => Ok(n),
-            _ => {
-                self.faults = self.faults.saturating_add(1);
-                Err(Failed)
-            }
+        let put = write(&mut self.writer, piece);
+        if put.is_err() {
+            self.faults = self.faults.saturating_add(1);
         }
+        put
     }
 }

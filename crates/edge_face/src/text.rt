@@ -11,27 +11,46 @@ use thiserror::Error;
 pub struct NoMemory;
 
 impl From<AllocError> for NoMemory {
+    ghost use Rattle.std.specs.Prelude.{◌≡◌};
+
+    ghost from_gives = { λ _ e. e ≡ record {} };
+
     fn from(_: AllocError) -> NoMemory {
         NoMemory
     }
 }
 
 impl<T: Drop> From<AllocFailed<T>> for NoMemory {
+    ghost use Rattle.std.specs.Prelude.{◌≡◌};
+
+    ghost from_gives = { λ _ e. e ≡ record {} };
+
     fn from(_: AllocFailed<T>) -> NoMemory {
         NoMemory
     }
 }
 
+/// Where a text stands: in memory of its own, or in the program.
+#[derive(Debug, Drop)]
+enum Place {
+    Owned(String),
+    Fixed(&'static str),
+}
+
 /// A text in UTF-8, seen as its bytes.
 #[derive(Debug, Drop)]
 pub struct Text {
-    inner: String,
+    place: Place,
 }
 
 impl Model for Text {
+    ghost use Rattle.std.specs.Prelude.{List, ℕ};
+
     ghost Value = { List ℕ };
 
-    ghost view = { λ t. string_bytes t.inner };
+    ghost use Rattle.edge_face.specs.Texts.{text_at};
+
+    ghost view = { λ t. text_at t.place };
 }
 
 impl Text {
@@ -39,32 +58,63 @@ impl Text {
         ensures { IfOk result (λ text. text ≡ from.now) }
     {
         Ok(Text {
-            inner: String::from_str(alloc, from)?,
+            place: Place::Owned(String::from_str(alloc, from)?),
         })
     }
 
     pub fn from_string(from: String) -> Text
         ensures { result ≡ string_bytes from }
     {
-        Text { inner: from }
+        Text {
+            place: Place::Owned(from),
+        }
+    }
+
+    /// A text that stands in the program. It takes no memory.
+    pub fn fixed(from: &'static str) -> Text
+        ensures { result ≡ from.now }
+    {
+        Text {
+            place: Place::Fixed(from),
+        }
     }
 
     pub fn as_str(&self) -> &str
         ensures { result.now ≡ self.now }
     {
-        self.inner.as_str()
+        match &self.place {
+            Place::Owned(text) => text.as_str(),
+            Place::Fixed(text) => text,
+        }
     }
 
     pub fn as_bytes(&self) -> &[u8]
         ensures { result.now ≡ self.now }
     {
-        self.inner.as_bytes()
+        self.as_str().as_bytes()
     }
 
+    /// Takes no memory where the text stands in the program.
     pub fn copy(&self, alloc: Global) -> Result<Text, NoMemory>
         ensures { IfOk result (λ text. text ≡ self.now) }
     {
-        Text::new(alloc, self.as_str())
+        match &self.place {
+            Place::Owned(text) => Text::new(alloc, text.as_str()),
+            Place::Fixed(text) => Ok(Text::fixed(text)),
+        }
+    }
+}
+
+impl Clone for Text {
+    ghost use Rattle.std.specs.Prelude.{◌≡◌};
+
+    ghost is_clone = { λ text copy. copy ≡ text };
+
+    fn clone(&self) -> Result<Text, AllocError> {
+        match &self.place {
+            Place::Owned(text) => Ok(Text::from_string(text.clone()?)),
+            Place::Fixed(text) => Ok(Text::fixed(text)),
+        }
     }
 }
 
@@ -105,5 +155,15 @@ impl Bytes {
         ensures { IfOk result (λ bytes. bytes ≡ self.now) }
     {
         Bytes::new(alloc, self.as_slice())
+    }
+}
+
+impl Clone for Bytes {
+    ghost use Rattle.std.specs.Prelude.{◌≡◌};
+
+    ghost is_clone = { λ bytes copy. copy ≡ bytes };
+
+    fn clone(&self) -> Result<Bytes, AllocError> {
+        Ok(Bytes::from_vec(self.inner.clone()?))
     }
 }

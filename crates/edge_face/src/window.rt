@@ -1,9 +1,10 @@
 //! A window of bytes that were taken from a source and not yet passed.
-ghost use Rattle.std.specs.Prelude.{◌≡◌, ℕ, ◌+◌, ◌-◌, ◌<◌, ◌≤◌, ◌↔◌, List, [], ◌++◌, length, take, drop, IfOk, IfErr, IfSome, OnErr, IsTrue, Ok, Err};
+ghost use Rattle.std.specs.Prelude.{◌≡◌, ◌≢◌, ◌==◌, false, true, ℕ, ◌+◌, ◌-◌, ◌^◌, ◌<◌, ◌≤◌, ◌↔◌, ◌⊎◌, List, [], ◌++◌, length, take, drop, IsFalse, IfOk, IfErr, IfSome, OnErr, IsTrue, Ok, Err};
 ghost use Rattle.std.specs.List.{slice_range};
 ghost use Rattle.edge_face.specs.Contents.{preceded, Rose};
+ghost use Rattle.edge_face.specs.Waiting.{Waiting, KnowsEnd, Grew};
 ghost use Rattle.edge_face.specs.Lines.{NoNewlineBelow, HasNoNewline, IsFirstNewline, ShowsPiece};
-ghost use Rattle.edge_face.specs.declared.window.TheConstants.{CAPACITY};
+ghost use Rattle.std.specs.Io.BufRead.{strip_last};
 
 use crate::device::{Failed, Source};
 use crate::text::NoMemory;
@@ -11,12 +12,11 @@ use memchr::memchr;
 use std::alloc::Global;
 use std::marker::Model;
 
-/// One byte more than a line may have before its newline.
-pub const CAPACITY: usize = 1_048_577;
-
 /// The bytes that wait, in one buffer that never grows.
 ///
-/// They stand from `start` to `end`. The first `scanned` of them are known to hold no newline, so a line that comes in many
+/// It holds what was taken and not yet used: lines, or heads and bodies of messages.
+///
+/// The bytes stand from `start` to `end`. The first `scanned` of them are known to hold no newline, so a line that comes in many
 /// pieces is searched once.
 #[derive(Drop)]
 pub struct Window {
@@ -24,6 +24,7 @@ pub struct Window {
     start: usize,
     end: usize,
     scanned: usize,
+    ended: bool,
 }
 
 /// Why a window shows no whole piece.
@@ -36,11 +37,11 @@ pub enum NoPiece {
 }
 
 impl Model for Window {
-    ghost Value = { List ℕ };
+    ghost Value = { Waiting };
 
-    ghost view = { λ w. slice_range w.buffer.items w.start w.end };
+    ghost view = { λ w. record { bytes = slice_range w.buffer.items w.start w.end; ended = w.ended; capacity = length w.buffer.items } };
 
-    ghost invariant = { λ w. (length w.buffer.items ≡ CAPACITY) × (w.start ≤ w.end) × (w.end ≤ CAPACITY) × (w.start + w.scanned ≤ w.end)
+    ghost invariant = { λ w. (w.start ≤ w.end) × (w.end ≤ length w.buffer.items) × (w.start + w.scanned ≤ w.end)
         × NoNewlineBelow w.scanned (slice_range w.buffer.items w.start w.end) };
 }
 
@@ -95,42 +96,67 @@ fn take_after<S: Source>(source: &mut S, buffer: &mut Vec<u8>, end: usize) -> Re
     ensures failed { OnErr result (S.left source.new ≡ S.left source.old) }
     ensures counted { S.faults source.old ≤ S.faults source.new }
     ensures caused { OnErr result (Rose (S.faults source.old) (S.faults source.new)) }
+    ensures beside { S.beside source.new ≡ S.beside source.old }
 {
     source.take(&mut buffer[end..])
 }
 
 impl Window {
-    /// An empty window, with all the memory that it will ever take.
-    pub fn new(alloc: Global) -> Result<Window, NoMemory>
-        ensures { IfOk result (λ window. window ≡ []) }
+    /// An empty window over at most so many bytes, with all the memory that it will ever take.
+    pub fn new(alloc: Global, capacity: usize) -> Result<Window, NoMemory>
+        ensures { IfOk result (λ window. window ≡ record { bytes = []; ended = false; capacity = capacity }) }
     {
         Ok(Window {
-            buffer: vec![in alloc; 0; CAPACITY]?,
+            buffer: vec![in alloc; 0; capacity]?,
             start: 0,
             end: 0,
             scanned: 0,
+            ended: false,
         })
     }
 
+    /// How many bytes wait.
     pub fn len(&self) -> usize
-        ensures len { result ≡ length self.now }
-        ensures within { result ≤ CAPACITY }
+        ensures len { result ≡ length self.now.bytes }
+        ensures within { result ≤ self.now.capacity }
     {
         self.end - self.start
     }
 
+    /// Whether no byte waits.
+    pub fn is_empty(&self) -> bool
+        ensures { IsTrue result ↔ (self.now.bytes ≡ []) }
+    {
+        self.bytes().is_empty()
+    }
+
+    /// Whether there is no room for another byte.
+    pub fn is_full(&self) -> bool
+        ensures full { IsTrue result → length self.now.bytes ≡ self.now.capacity }
+        ensures room { IsFalse result → length self.now.bytes < self.now.capacity }
+    {
+        self.len() == self.buffer.len()
+    }
+
+    /// The bytes that wait.
+    pub fn bytes(&self) -> &[u8]
+        ensures { result.now ≡ self.now.bytes }
+    {
+        &self.buffer[self.start..self.end]
+    }
+
     /// The first bytes of those that wait.
     pub fn front(&self, n: usize) -> &[u8]
-        requires { n ≤ length self.now }
-        ensures { result.now ≡ take n self.now }
+        requires { n ≤ length self.now.bytes }
+        ensures { result.now ≡ take n self.now.bytes }
     {
         &self.buffer[self.start..self.start + n]
     }
 
     /// Lets the first bytes go.
     pub fn pass(&mut self, n: usize)
-        requires { n ≤ length self.old }
-        ensures { self.new ≡ drop n self.old }
+        requires { n ≤ length self.old.bytes }
+        ensures { self.new ≡ record { bytes = drop n self.old.bytes; ended = self.old.ended; capacity = self.old.capacity } }
     {
         self.start += n;
         self.scanned = 0;
@@ -139,8 +165,9 @@ impl Window {
     /// The place of the first newline.
     fn newline(&mut self) -> Option<usize>
         ensures kept { self.new ≡ self.old }
-        ensures first { IsFirstNewline self.old result }
-        ensures within { length self.old ≤ CAPACITY }
+        ensures first { IsFirstNewline self.old.bytes result }
+        ensures within { IfSome result (λ at. at < 2 ^ 64 - 1) }
+        ensures held { length self.old.bytes ≤ self.old.capacity }
     {
         let found = newline_from(&self.buffer[self.start..self.end], self.scanned);
         if found.is_none() {
@@ -149,39 +176,72 @@ impl Window {
         found
     }
 
+    /// Whether the source has ended.
+    pub fn has_ended(&self) -> bool
+        ensures { result ≡ self.now.ended }
+    {
+        self.ended
+    }
+
     /// Takes more bytes behind those that wait, and answers how many. None is the end of the input.
-    fn fill<S: Source>(&mut self, source: &mut S) -> Result<usize, Failed>
-        requires { length self.old < CAPACITY }
-        ensures kept { preceded self.new (S.left source.new) ≡ preceded self.old (S.left source.old) }
-        ensures more { IfOk result (λ n. length self.new ≡ length self.old + n) }
+    ///
+    /// The window has room for a byte at least. A source that has ended is asked no more.
+    pub fn fill<S: Source>(&mut self, source: &mut S) -> Result<usize, Failed>
+        requires room { length self.old.bytes < self.old.capacity }
+        requires knows { KnowsEnd self.old.ended (S.left source.old) }
+        ensures grew { Grew self.old.bytes self.new.bytes (S.left source.old) (S.left source.new) }
+        ensures more { IfOk result (λ n. length self.new.bytes ≡ length self.old.bytes + n) }
         ensures end { result ≡ Ok 0 → IfSome (S.left source.new) (λ rest. rest ≡ []) }
-        ensures same { result ≡ Ok 0 → self.new ≡ self.old }
+        ensures same { result ≡ Ok 0 → self.new.bytes ≡ self.old.bytes }
         ensures failed { OnErr result (self.new ≡ self.old) }
+        ensures ended { IfOk result (λ n. self.new.ended ≡ (n == 0)) }
+        ensures asks_no_more { self.old.ended ≡ true → (result ≡ Ok 0) × (self.new ≡ self.old) × (source.new ≡ source.old) }
+        ensures knows { KnowsEnd self.new.ended (S.left source.new) }
+        ensures capacity { self.new.capacity ≡ self.old.capacity }
         ensures counted { S.faults source.old ≤ S.faults source.new }
         ensures caused { OnErr result (Rose (S.faults source.old) (S.faults source.new)) }
+        ensures beside { S.beside source.new ≡ S.beside source.old }
     {
+        if self.ended {
+            return Ok(0);
+        }
         let span = room_behind(&mut self.buffer, self.start, self.end);
         self.start = span.start;
         self.end = span.end;
         let taken = take_after(source, &mut self.buffer, self.end)?;
         self.end += taken;
+        self.ended = taken == 0;
         Ok(taken)
     }
 
     /// The length of the first piece of what waits and is left, once it stands in the window; 0 where nothing is left.
+    ///
+    /// A source that has ended is asked no more, and none is asked where a newline waits already.
     pub fn next_piece<S: Source>(&mut self, source: &mut S) -> Result<usize, NoPiece>
-        ensures kept { preceded self.new (S.left source.new) ≡ preceded self.old (S.left source.old) }
-        ensures shown { IfOk result (λ n. ShowsPiece n self.new (S.left source.new)) }
-        ensures full { result ≡ Err NoPiece.Full → HasNoNewline self.new × (length self.new ≡ CAPACITY) }
-        ensures failed { result ≡ Err NoPiece.Failed → HasNoNewline self.new × Rose (S.faults source.old) (S.faults source.new) }
+        requires { KnowsEnd self.old.ended (S.left source.old) }
+        ensures grew { Grew self.old.bytes self.new.bytes (S.left source.old) (S.left source.new) }
+        ensures knows { KnowsEnd self.new.ended (S.left source.new) }
+        ensures asks_no_more { self.old.ended ≡ true → (self.new ≡ self.old) × (source.new ≡ source.old) × (result ≢ Err NoPiece.Failed) }
+        ensures waits { HasNoNewline self.old.bytes ⊎ ((self.new ≡ self.old) × (source.new ≡ source.old)) }
+        ensures still { self.new.ended ≡ false → self.old.ended ≡ false }
+        ensures shown { IfOk result (λ n. ShowsPiece n self.new.bytes self.new.ended (S.left source.new)) }
+        ensures short { IfOk result (λ n. length (strip_last 10 (take n self.new.bytes)) < self.new.capacity) }
+        ensures full { result ≡ Err NoPiece.Full → HasNoNewline self.new.bytes × (length self.new.bytes ≡ self.new.capacity) }
+        ensures failed { result ≡ Err NoPiece.Failed → HasNoNewline self.new.bytes × (self.new.ended ≡ false) × Rose (S.faults source.old) (S.faults source.new)
+            × (length self.new.bytes < self.new.capacity) }
+        ensures capacity { self.new.capacity ≡ self.old.capacity }
         ensures counted { S.faults source.old ≤ S.faults source.new }
+        ensures beside { S.beside source.new ≡ S.beside source.old }
     {
         loop {
             if let Some(at) = self.newline() {
                 return Ok(at + 1);
             }
-            if self.len() == CAPACITY {
+            if self.is_full() {
                 return Err(NoPiece::Full);
+            }
+            if self.has_ended() {
+                return Ok(self.len());
             }
             match self.fill(source) {
                 Ok(0) => return Ok(self.len()),

@@ -11,4 +11,5 @@ loop-gone-preserved g c =
       within = omega (arith, c.in-Ok.ensures.within, length-drop c.loop-gone.gone bytes);
       put = c.in-Ok.ensures.put ∙ ap (λ rest. appended (g.K.Sink.given c.loop-gone.sink) (take c.in-Ok.n rest)) (to_end bytes c.loop-gone.gone) ∙ ap (λ held. appended held (take c.in-Ok.n (drop c.loop-gone.gone bytes))) c.loop-gone.invariant.put ∙ appended-take (g.K.Sink.given c.args.sink.now) bytes c.loop-gone.gone c.in-Ok.n;
       counted = omega arith;
+      beside = c.in-Ok.ensures.beside ∙ c.loop-gone.invariant.beside;
     }

@@ -8,6 +8,7 @@ invariant-loop-gone g l = record {
   within : l.gone ≤ length l.bytes;
   put : g.K.Sink.given l.sink ≡ appended (g.K.Sink.given l.fn.sink) (take l.gone l.bytes);
   counted : g.K.Sink.faults l.fn.sink ≤ g.K.Sink.faults l.sink;
+  beside : g.K.Sink.beside l.sink ≡ g.K.Sink.beside l.fn.sink;
 }
 
 abbrev pub decreases-loop-gone : goal.decreases-loop-gone

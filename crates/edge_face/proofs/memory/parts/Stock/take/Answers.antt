@@ -1,6 +1,6 @@
-use Rattle.std.proofs.Common.{◌≡◌, ◌∙◌, ℕ, List, ◌++◌, ◌+◌, take, drop, ap, sym, Some, Option}
+use Rattle.std.proofs.Common.{◌≡◌, ◌∙◌, ℕ, List, ◌++◌, ◌+◌, take, drop, ap, sym}
 use Rattle.std.proofs.lemmas.List.{take-append-drop, drop-drop}
-use Rattle.edge_face.proofs.memory.MemorySourceSource.take.Goals as goal
+use Rattle.edge_face.proofs.memory.parts.Stock.take.Goals as goal
 
 -- what was left is what was copied, and then what is left
 gives : (bytes left into rest : List ℕ) (at n : ℕ) → drop at bytes ≡ left → rest ≡ drop at bytes → take n into ≡ take n rest → left ≡ take n into ++ drop (at + n) bytes
@@ -11,5 +11,5 @@ gives bytes left into rest at n is rest_is front =
 pub returns-clause-taken : goal.returns-clause-taken
 returns-clause-taken c =
     let s = c.self.inside in
-    ap Some (gives s.bytes c.args.self.now.left c.copy_front-n.new.into c.split_at.result.1.now s.taken c.copy_front-n.result
-    (ap (λ v. v.left) c.self.view_is) (c.split_at.ensures.back ∙ ap (drop s.taken) c.as_slice.ensures) c.copy_front-n.ensures.front)
+    gives s.bytes c.args.self.now c.copy_front-n.new.into c.split_at.result.1.now s.taken c.copy_front-n.result
+    c.self.view_is (c.split_at.ensures.back ∙ ap (drop s.taken) c.as_slice.ensures) c.copy_front-n.ensures.front
