@@ -1,6 +1,7 @@
 -- The rows of one place in front of others.
 use Rattle.std.proofs.Common.{◌≡◌, ℕ, append_assoc, Some, None, take-append-drop, zero, suc, ◌+◌, ◌<◌, ◌≤◌, List, [], ◌∷◌, ◌++◌, length, take, drop, map, Bool, true, false, cond, refl, sym, ap, subst, ◌∙◌, arith, inl, inr}
 use Rattle.std.specs.List.{prefix_len, slice_get}
+use Rattle.row_cells.specs.Limits.{most_documents}
 use Rattle.row_cells.specs.declared.schemas.Schema.{Schema}
 use Rattle.row_cells.specs.declared.rows.Row.{Row}
 use Rattle.row_cells.specs.Each.{Each}
@@ -11,8 +12,9 @@ use Rattle.row_cells.specs.RowLists.{AllFit, documents}
 use Rattle.downsample_fold.specs.Conditions.{HaveCells}
 use Rattle.downsample_fold.specs.Direct.{fold_at}
 use Rattle.downsample_fold.specs.DirectLaws.{same_place-is, same_place-refl, other_place-sym}
-use Rattle.downsample_fold.specs.Joined.{placed, put, joined, are_at_one, at_one_parts, at_one_from, put_joins, put_passes}
-use Rattle.downsample_fold.specs.JoinedFits.{placed_fits, AllFit-cells}
+use Rattle.downsample_fold.specs.Joined.{placed, put, joined, are_at_one}
+use Rattle.downsample_fold.specs.JoinedLaws.{at_one_parts, at_one_from, put_joins, put_passes}
+use Rattle.downsample_fold.specs.JoinedFitLaws.{placed_fits, AllFit-cells}
 use Rattle.downsample_fold.specs.Places.{Place, place_of, same_place}
 use Rattle.downsample_fold.specs.Room.{RowsHaveRoom}
 use Rattle.downsample_fold.specs.RowLaws.{fold_at-one, fold_at-more}
@@ -85,7 +87,7 @@ joined_run schema n place row (next ∷ run) later cells here apart =
 -- ---- what fits
 
 -- the row of a place fits the folded form
-pub fold_at_fits : (schema : Schema) (n : ℕ) (place : Place) (row : Row) (run : List Row) → 0 < n → Each (λ r. same_place (place_of n r) place ≡ true) (row ∷ run) → AllFit schema (row ∷ run) → documents (row ∷ run) ≤ 16777216 → Fits (folded_form schema) (fold_at schema place (row ∷ run))
+pub fold_at_fits : (schema : Schema) (n : ℕ) (place : Place) (row : Row) (run : List Row) → 0 < n → Each (λ r. same_place (place_of n r) place ≡ true) (row ∷ run) → AllFit schema (row ∷ run) → documents (row ∷ run) ≤ most_documents → Fits (folded_form schema) (fold_at schema place (row ∷ run))
 fold_at_fits schema n place row [] some here fits few =
     subst (λ p. Fits (folded_form schema) (fold_at schema p (row ∷ []))) (same_place-is (place_of n row) place here.0)
     (subst (Fits (folded_form schema)) (sym (fold_at-one schema n row (AllFit-cells schema (row ∷ []) fits).0)) (placed_fits schema n row some fits.0))
@@ -95,7 +97,7 @@ fold_at_fits schema n place row (next ∷ run) some here fits few =
     (inr (fold_at_fits schema n place next run some here.1 fits.1 (omega (arith, few)))) (inr (placed_fits schema n row some fits.0)) (omega (arith, few)))
 
 -- its numbers leave room at each step
-pub run_has_room : (schema : Schema) (n : ℕ) (place : Place) (rows : List Row) → 0 < n → Each (λ r. same_place (place_of n r) place ≡ true) rows → AllFit schema rows → documents rows ≤ 16777216 → RowsHaveRoom schema.rises schema.fields (map (λ row. row.cells) rows)
+pub run_has_room : (schema : Schema) (n : ℕ) (place : Place) (rows : List Row) → 0 < n → Each (λ r. same_place (place_of n r) place ≡ true) rows → AllFit schema rows → documents rows ≤ most_documents → RowsHaveRoom schema.rises schema.fields (map (λ row. row.cells) rows)
 run_has_room schema n place [] some here fits few = tt
 run_has_room schema n place (row ∷ []) some here fits few = tt
 run_has_room schema n place (row ∷ next ∷ rest) some here fits few = (
@@ -153,7 +155,7 @@ module _ (schema : Schema) (n : ℕ) (first : Row) where
       ∙ (joined_run schema n (place_of n first) row (take m rows) (drop m rows) (each_take (λ r. length r.cells ≡ length schema.fields) (suc m) (row ∷ rows) cells) here apart
       ∙ ap (λ k. fold_at schema (place_of n first) (take k (row ∷ rows)) ∷ joined schema n (drop k (row ∷ rows))) (sym whole))
 
-  pub first_has_room : (rows : List Row) → 0 < n → AllFit schema rows → documents rows ≤ 16777216 →
+  pub first_has_room : (rows : List Row) → 0 < n → AllFit schema rows → documents rows ≤ most_documents →
       RowsHaveRoom schema.rises schema.fields (map (λ row. row.cells) (take (prefix_len (with_first n first) rows) rows))
   first_has_room rows some fits few =
       let k = prefix_len (with_first n first) rows in

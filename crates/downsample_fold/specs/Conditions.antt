@@ -1,10 +1,8 @@
 -- What rows are that may be folded.
-use Rattle.std.specs.Prelude.{◌≡◌, ℕ, ◌⊎◌, List, [], ◌∷◌, length}
-use Rattle.std.specs.declared.cmp.Ordering.TheVariants.{Equal}
+use Rattle.std.specs.Prelude.{◌≡◌, ℕ, List, [], ◌∷◌, length}
 use Rattle.row_cells.specs.declared.schemas.Schema.{Schema}
 use Rattle.row_cells.specs.declared.rows.Row.{Row}
 use Rattle.row_cells.specs.Each.{Each}
-use Rattle.row_cells.specs.Order.{row_cmp}
 use Rattle.time_text.specs.Bucket.{bucket_start}
 
 -- each row has a cell for each field, as one that fits has
@@ -19,13 +17,3 @@ AreOfOneSeries (row ∷ rows) = Each (λ other. other.key ≡ row.key) rows
 -- the time of each row is the start of a bucket of n milliseconds
 abbrev pub AllAtStarts : ℕ → List Row → Type 0
 AllAtStarts n rows = Each (λ row. bucket_start n row.time ≡ row.time) rows
-
--- a row is one of these
-abbrev pub IsAmong : Row → List Row → Type 0
-IsAmong row [] = ⊥
-IsAmong row (first ∷ rest) = (first ≡ row) ⊎ IsAmong row rest
-
--- no two rows are of one series and time
-abbrev pub AreDistinct : List Row → Type 0
-AreDistinct [] = Unit {0}
-AreDistinct (row ∷ rows) = Each (λ other. row_cmp row other ≡ Equal → ⊥) rows × AreDistinct rows

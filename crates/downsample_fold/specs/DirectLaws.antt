@@ -18,9 +18,10 @@ use Rattle.row_cells.specs.Each.{Each, Each-weaker, Each-filter, filter_all, fil
 use Rattle.downsample_fold.specs.Conditions.{HaveCells}
 use Rattle.downsample_fold.specs.Places.{Place, place_of, same_place, places, rows_at}
 use Rattle.downsample_fold.specs.Direct.{fold_at, fold_in_order}
-use Rattle.downsample_fold.specs.OrderLaws.{IsUpTo, Ascend, upto_cases}
-use Rattle.downsample_fold.specs.Joined.{placed, put, joined, put_joins, put_passes}
-use Rattle.downsample_fold.specs.JoinedOrder.{bucket_start-mono}
+use Rattle.row_cells.specs.OrderLaws.{IsUpTo, Ascend, upto_cases}
+use Rattle.downsample_fold.specs.Joined.{placed, put, joined}
+use Rattle.downsample_fold.specs.JoinedLaws.{put_joins, put_passes}
+use Rattle.downsample_fold.specs.JoinedOrderLaws.{bucket_start-mono}
 use Rattle.downsample_fold.specs.RowLaws.{fold_at-one, fold_at-more}
 
 -- ---- places
@@ -95,7 +96,7 @@ apart_later n a b c some first second apart =
 -- ---- the direct fold, one row more
 
 -- a row has no part in the folds of other places
-others_stay : (schema : Schema) (n : ℕ) (row : Row) (rows : List Row) (ps : List Place) → Each (λ p. same_place (place_of n row) p ≡ false) ps →
+pub others_stay : (schema : Schema) (n : ℕ) (row : Row) (rows : List Row) (ps : List Place) → Each (λ p. same_place (place_of n row) p ≡ false) ps →
     map (λ p. fold_at schema p (rows_at n p (row ∷ rows))) ps ≡ map (λ p. fold_at schema p (rows_at n p rows)) ps
 others_stay schema n row rows [] others = refl
 others_stay schema n row rows (p ∷ ps) others =
@@ -113,7 +114,7 @@ rows_eq a b = cc
 rows_here : (n : ℕ) (row : Row) (rows : List Row) → rows_at n (place_of n row) (row ∷ rows) ≡ row ∷ rows_at n (place_of n row) rows
 rows_here n row rows = ap (λ b. cond b (row ∷ rows_at n (place_of n row) rows) (rows_at n (place_of n row) rows)) (same_place-refl (place_of n row))
 
-other_places : (p : Place) (ps : List Place) → Each (λ q. same_place p q ≡ false) ps → filter (λ q. not (same_place p q)) ps ≡ ps
+pub other_places : (p : Place) (ps : List Place) → Each (λ q. same_place p q ≡ false) ps → filter (λ q. not (same_place p q)) ps ≡ ps
 other_places p ps others =
     filter_all (λ q. not (same_place p q)) ps (Each-weaker (λ q. same_place p q ≡ false) (λ q. not (same_place p q) ≡ true) (λ q other. ap not other) ps others)
 

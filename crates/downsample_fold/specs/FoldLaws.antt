@@ -12,11 +12,13 @@ use Rattle.downsample_fold.specs.Columns.{fold_columns, other_cells}
 use Rattle.downsample_fold.specs.Conditions.{HaveCells, AllAtStarts}
 use Rattle.downsample_fold.specs.Direct.{down, fold_at, fold_in_order}
 use Rattle.row_cells.specs.Each.{Each, Each-all}
-use Rattle.downsample_fold.specs.Laws.{FoldsCompose, FoldsSorted, FoldsInOrder, FoldsAtStarts, FoldsFit, FoldsCountAll}
-use Rattle.downsample_fold.specs.OrderLaws.{in_row_order-each, in_row_order-ascends, in_row_order-same, documents-in_row_order}
-use Rattle.downsample_fold.specs.Joined.{put, placed, joined, joined-joined, documents-joined}
-use Rattle.downsample_fold.specs.JoinedOrder.{in_order-ascends, joined-in_order, joined-at_starts}
-use Rattle.downsample_fold.specs.JoinedFits.{joined_fits, AllFit-cells}
+use Rattle.row_cells.specs.SetLaws.{among_sorted, sorted_distinct, sorted_is}
+use Rattle.downsample_fold.specs.Laws.{FoldsAnyOrder, FoldsCompose, FoldsSorted, FoldsInOrder, FoldsAtStarts, FoldsFit, FoldsCountAll}
+use Rattle.row_cells.specs.OrderLaws.{in_order-ascends, in_row_order-each, in_row_order-ascends, in_row_order-same, documents-in_row_order}
+use Rattle.downsample_fold.specs.Joined.{put, placed, joined}
+use Rattle.downsample_fold.specs.JoinedLaws.{joined-joined, documents-joined}
+use Rattle.downsample_fold.specs.JoinedOrderLaws.{joined-in_order, joined-at_starts}
+use Rattle.downsample_fold.specs.JoinedFitLaws.{joined_fits, AllFit-cells}
 use Rattle.downsample_fold.specs.DirectLaws.{fold_in_order-joined}
 
 -- the direct fold is the fold of the sorted rows as joined neighbours
@@ -33,6 +35,13 @@ down-in_order schema rows n order = ap (λ rs. fold_in_order schema rs n) (in_ro
 pub folds_sorted : FoldsSorted
 unfolding down
 folds_sorted schema rows n = ap (λ rs. fold_in_order schema rs n) (in_row_order-same (in_row_order rows) (in_row_order-ascends rows))
+
+pub folds_any_order : FoldsAnyOrder
+unfolding down
+folds_any_order schema rows others n distinct_a distinct_b same =
+    ap (λ rs. fold_in_order schema rs n)
+    (sorted_is rows (in_row_order others) distinct_a (sorted_distinct others distinct_b)
+    (λ r. (λ among. (among_sorted r others).1 ((same r).0 among), λ among. (same r).1 ((among_sorted r others).0 among))))
 
 -- ---- folding in rounds
 

@@ -15,6 +15,10 @@ pub record Place : Type 0 where
 abbrev pub place_of : ℕ → Row → Place
 place_of n row = record { key = row.key; start = bucket_start n row.time }
 
+-- the place that a folded row stands at
+abbrev pub own_place : Row → Place
+own_place row = record { key = row.key; start = row.time }
+
 abbrev pub same_place : Place → Place → Bool
 same_place p q = bytes_eq p.key q.key && int_eq p.start q.start
 

@@ -1,7 +1,6 @@
 -- The fold series by series.
 use Rattle.std.specs.Prelude.{◌≡◌, ◌⊎◌, ℕ, zero, suc, ◌+◌, ◌<◌, ◌||◌, not, Bool, true, false, cond, List, [], ◌∷◌, ◌++◌, map, filter, flat_map, take, slice_get, Some, None, if◌then◌else◌}
 use Rattle.std.specs.Str.{bytes_eq}
-use Rattle.std.specs.Ordering.{is_le}
 use Rattle.std.proofs.Common.{inl, inr, refl, ap, ◌∙◌, sym, subst, append-nil, add-one}
 use Rattle.std.proofs.lemmas.Bool.{both_ways, not-false, false_from_ne_true, cond-true, cond-false}
 use Rattle.std.proofs.lemmas.List.Elements.{filter-append}
@@ -11,16 +10,15 @@ use Rattle.row_cells.specs.declared.schemas.Schema.{Schema}
 use Rattle.row_cells.specs.declared.rows.Row.{Row}
 use Rattle.row_cells.specs.Dimensions.{IsBefore}
 use Rattle.row_cells.specs.Merging.{merge_of_rows}
-use Rattle.row_cells.specs.Order.{row_cmp}
-use Rattle.row_cells.specs.RowLists.{insert_row, in_row_order}
-use Rattle.downsample_fold.specs.Places.{Place, place_of, same_place, places, rows_at, rows_of, keys_of, has_key}
+use Rattle.row_cells.specs.RowLists.{in_row_order}
+use Rattle.downsample_fold.specs.Places.{Place, own_place, place_of, same_place, places, rows_at, rows_of, keys_of, has_key}
 use Rattle.downsample_fold.specs.Conditions.{HaveCells}
 use Rattle.downsample_fold.specs.Direct.{down, fold_at, fold_in_order}
 use Rattle.row_cells.specs.Each.{Each, Each-both, Each-weaker, Each-filter, Each-all, filter_all, filter_none}
-use Rattle.downsample_fold.specs.Laws.{KeysAscend, SeriesAscend, FoldsSomeSeries, FoldsJoinSeries, FoldsJoinFirst, FoldsJoinNext, series_of}
-use Rattle.downsample_fold.specs.OrderLaws.{upto_cases, IsUpTo, Ascend, insert_first, upto_of_le, upto_chain, in_row_order-ascends}
-use Rattle.downsample_fold.specs.Joined.{placed, put, joined, are_at_one, at_one_parts}
-use Rattle.downsample_fold.specs.JoinedOrder.{in_order-ascends}
+use Rattle.downsample_fold.specs.Laws.{KeysAscend, SeriesAscend, FoldsSomePlaces, FoldsSomeSeries, FoldsTested, FoldsJoinSeries, FoldsJoinFirst, FoldsJoinNext, series_of}
+use Rattle.row_cells.specs.OrderLaws.{upto_cases, IsUpTo, Ascend, in_order-ascends, in_row_order-ascends, in_row_order-filter}
+use Rattle.downsample_fold.specs.Joined.{placed, put, joined, are_at_one}
+use Rattle.downsample_fold.specs.JoinedLaws.{at_one_parts}
 use Rattle.downsample_fold.specs.DirectLaws.{same_place-is, between, rows_eq}
 use Rattle.downsample_fold.specs.FoldLaws.{down-joined, folds_in_order}
 
@@ -46,88 +44,70 @@ module _ {X : Type 0} (p q : X → Bool) where
       by_tests false true p_is q_is later = rw p_is later
       by_tests false false p_is q_is later = later
 
--- ---- some of the rows, put in order
+-- ---- the fold of the rows of some places, and of some series
 
-module _ (test : Row → Bool) where
-  insert-filter : (row : Row) (rows : List Row) → Ascend rows → filter test (insert_row row rows) ≡ cond (test row) (insert_row row (filter test rows)) (filter test rows)
-  insert-filter row [] ascend = refl
-  insert-filter row (first ∷ rest) ascend = by_place (is_le (row_cmp row first)) refl (insert-filter row rest ascend.1)
-    where
-      by_place : (b : Bool) → is_le (row_cmp row first) ≡ b
-          → filter test (insert_row row rest) ≡ cond (test row) (insert_row row (filter test rest)) (filter test rest)
-          → filter test (if b then row ∷ first ∷ rest else first ∷ insert_row row rest) ≡ cond (test row) (insert_row row (filter test (first ∷ rest))) (filter test (first ∷ rest))
-      by_place true is later =
-          let up : IsUpTo row first = upto_of_le row first (row_cmp row first) refl is in
-          let all : Each (IsUpTo row) (first ∷ rest) = (up, Each-weaker (IsUpTo first) (IsUpTo row) (λ r next. upto_chain row first r up next) rest ascend.0) in
-          ap (λ rs. cond (test row) rs (filter test (first ∷ rest))) (sym (insert_first row (filter test (first ∷ rest)) (Each-filter (IsUpTo row) test (first ∷ rest) all)))
-      by_place false is later = by_tests (test row) (test first) (filter test (insert_row row rest)) (filter test rest) later
-        where
-          by_tests : (a b : Bool) (inserted kept : List Row) → inserted ≡ cond a (insert_row row kept) kept
-              → cond b (first ∷ inserted) inserted ≡ cond a (insert_row row (cond b (first ∷ kept) kept)) (cond b (first ∷ kept) kept)
-          by_tests true true inserted kept same = ap (λ rs. first ∷ rs) same ∙ sym (cond-false (is_le (row_cmp row first)) (row ∷ first ∷ kept) (first ∷ insert_row row kept) is)
-          by_tests true false inserted kept same = same
-          by_tests false true inserted kept same = ap (λ rs. first ∷ rs) same
-          by_tests false false inserted kept same = same
-
-  pub in_row_order-filter : (rows : List Row) → in_row_order (filter test rows) ≡ filter test (in_row_order rows)
-  in_row_order-filter [] = refl
-  in_row_order-filter (row ∷ rows) =
-      by_test (test row) (in_row_order-filter rows) (insert-filter row (in_row_order rows) (in_row_order-ascends rows))
-    where
-      by_test : (b : Bool) → in_row_order (filter test rows) ≡ filter test (in_row_order rows)
-          → filter test (insert_row row (in_row_order rows)) ≡ cond b (insert_row row (filter test (in_row_order rows))) (filter test (in_row_order rows))
-          → in_row_order (cond b (row ∷ filter test rows) (filter test rows)) ≡ filter test (insert_row row (in_row_order rows))
-      by_test true later inserted = ap (insert_row row) later ∙ sym inserted
-      by_test false later inserted = later ∙ sym inserted
-
--- ---- the fold of the rows of some series
-
-module _ (chosen : List ℕ → Bool) (n : ℕ) where
+module _ (chosen : Place → Bool) (n : ℕ) where
   abbrev row_chosen : Row → Bool
-  row_chosen row = chosen row.key
+  row_chosen row = chosen (place_of n row)
 
-  abbrev place_chosen : Place → Bool
-  place_chosen p = chosen p.key
+  abbrev fold_chosen : Row → Bool
+  fold_chosen row = chosen (own_place row)
 
-  same_choice : (p q : Place) → same_place p q ≡ true → chosen p.key ≡ chosen q.key
-  same_choice p q is = ap (λ r. chosen r.key) (same_place-is p q is)
+  same_choice : (p q : Place) → same_place p q ≡ true → chosen p ≡ chosen q
+  same_choice p q is = ap chosen (same_place-is p q is)
 
-  other_choice : (p q : Place) → chosen p.key ≡ true → chosen q.key ≡ false → same_place q p ≡ false
-  other_choice p q taken passed = false_from_ne_true (same_place q p) (λ is. both_ways (chosen q.key) passed (same_choice q p is ∙ taken))
+  other_choice : (p q : Place) → chosen p ≡ true → chosen q ≡ false → same_place q p ≡ false
+  other_choice p q taken passed = false_from_ne_true (same_place q p) (λ is. both_ways (chosen q) passed (same_choice q p is ∙ taken))
 
-  places-filter : (rows : List Row) → places n (filter row_chosen rows) ≡ filter place_chosen (places n rows)
+  places-filter : (rows : List Row) → places n (filter row_chosen rows) ≡ filter chosen (places n rows)
   places-filter [] = refl
-  places-filter (row ∷ rows) = by_test (chosen row.key) refl (places-filter rows)
+  places-filter (row ∷ rows) = by_test (chosen (place_of n row)) refl (places-filter rows)
     where
-      by_test : (b : Bool) → chosen row.key ≡ b → places n (filter row_chosen rows) ≡ filter place_chosen (places n rows)
-          → places n (cond b (row ∷ filter row_chosen rows) (filter row_chosen rows)) ≡ cond b (place_of n row ∷ filter place_chosen (filter (λ p. not (same_place (place_of n row) p)) (places n rows))) (filter place_chosen (filter (λ p. not (same_place (place_of n row) p)) (places n rows)))
+      by_test : (b : Bool) → chosen (place_of n row) ≡ b → places n (filter row_chosen rows) ≡ filter chosen (places n rows)
+          → places n (cond b (row ∷ filter row_chosen rows) (filter row_chosen rows)) ≡ cond b (place_of n row ∷ filter chosen (filter (λ p. not (same_place (place_of n row) p)) (places n rows))) (filter chosen (filter (λ p. not (same_place (place_of n row) p)) (places n rows)))
       by_test true is later =
           ap (λ ps. place_of n row ∷ filter (λ p. not (same_place (place_of n row) p)) ps) later
-          ∙ ap (λ ps. place_of n row ∷ ps) (filter_swap (λ p. not (same_place (place_of n row) p)) place_chosen (places n rows))
+          ∙ ap (λ ps. place_of n row ∷ ps) (filter_swap (λ p. not (same_place (place_of n row) p)) chosen (places n rows))
       by_test false is later =
-          later ∙ sym (filter_absorbs place_chosen (λ p. not (same_place (place_of n row) p)) (λ p gone. sym (same_choice (place_of n row) p (not-false (same_place (place_of n row) p) gone)) ∙ is) (places n rows))
+          later ∙ sym (filter_absorbs chosen (λ p. not (same_place (place_of n row) p)) (λ p gone. sym (same_choice (place_of n row) p (not-false (same_place (place_of n row) p) gone)) ∙ is) (places n rows))
 
-  rows_at-filter : (p : Place) (rows : List Row) → chosen p.key ≡ true → rows_at n p (filter row_chosen rows) ≡ rows_at n p rows
+  rows_at-filter : (p : Place) (rows : List Row) → chosen p ≡ true → rows_at n p (filter row_chosen rows) ≡ rows_at n p rows
   rows_at-filter p rows taken = filter_absorbs (λ row. same_place (place_of n row) p) row_chosen (λ row passed. other_choice p (place_of n row) taken passed) rows
 
   map_chosen : (schema : Schema) (rows : List Row) (ps : List Place) →
-      map (λ p. fold_at schema p (rows_at n p (filter row_chosen rows))) (filter place_chosen ps) ≡ filter row_chosen (map (λ p. fold_at schema p (rows_at n p rows)) ps)
+      map (λ p. fold_at schema p (rows_at n p (filter row_chosen rows))) (filter chosen ps) ≡ filter fold_chosen (map (λ p. fold_at schema p (rows_at n p rows)) ps)
   map_chosen schema rows [] = refl
-  map_chosen schema rows (p ∷ ps) = by_test (chosen p.key) refl (map_chosen schema rows ps)
+  map_chosen schema rows (p ∷ ps) = by_test (chosen p) refl (map_chosen schema rows ps)
     where
-      by_test : (b : Bool) → chosen p.key ≡ b
-          → map (λ q. fold_at schema q (rows_at n q (filter row_chosen rows))) (filter place_chosen ps) ≡ filter row_chosen (map (λ q. fold_at schema q (rows_at n q rows)) ps)
-          → map (λ q. fold_at schema q (rows_at n q (filter row_chosen rows))) (cond b (p ∷ filter place_chosen ps) (filter place_chosen ps)) ≡ cond b (fold_at schema p (rows_at n p rows) ∷ filter row_chosen (map (λ q. fold_at schema q (rows_at n q rows)) ps)) (filter row_chosen (map (λ q. fold_at schema q (rows_at n q rows)) ps))
+      by_test : (b : Bool) → chosen p ≡ b
+          → map (λ q. fold_at schema q (rows_at n q (filter row_chosen rows))) (filter chosen ps) ≡ filter fold_chosen (map (λ q. fold_at schema q (rows_at n q rows)) ps)
+          → map (λ q. fold_at schema q (rows_at n q (filter row_chosen rows))) (cond b (p ∷ filter chosen ps) (filter chosen ps)) ≡ cond b (fold_at schema p (rows_at n p rows) ∷ filter fold_chosen (map (λ q. fold_at schema q (rows_at n q rows)) ps)) (filter fold_chosen (map (λ q. fold_at schema q (rows_at n q rows)) ps))
       by_test true is later = rows_eq (ap (fold_at schema p) (rows_at-filter p rows is)) later
       by_test false is later = later
 
-pub folds_some_series : FoldsSomeSeries
+pub folds_some_places : FoldsSomePlaces
 unfolding down
-folds_some_series schema rows n chosen =
+folds_some_places schema rows n chosen =
     let sorted = in_row_order rows in
-    ap (λ rs. fold_in_order schema rs n) (in_row_order-filter (λ row. chosen row.key) rows)
-    ∙ (ap (map (λ p. fold_at schema p (rows_at n p (filter (λ row. chosen row.key) sorted)))) (places-filter chosen n sorted)
+    ap (λ rs. fold_in_order schema rs n) (in_row_order-filter (λ row. chosen (place_of n row)) rows)
+    ∙ (ap (map (λ p. fold_at schema p (rows_at n p (filter (λ row. chosen (place_of n row)) sorted)))) (places-filter chosen n sorted)
     ∙ map_chosen chosen n schema sorted (places n sorted))
+
+filter_agree : (p q : Row → Bool) (rows : List Row) → Each (λ row. p row ≡ q row) rows → filter p rows ≡ filter q rows
+filter_agree p q [] each = refl
+filter_agree p q (row ∷ rows) each = both each.0 (filter_agree p q rows each.1)
+  where
+    both : {a b : Bool} {xs ys : List Row} → a ≡ b → xs ≡ ys → cond a (row ∷ xs) xs ≡ cond b (row ∷ ys) ys
+    both same later = cc
+
+pub folds_tested : FoldsTested
+folds_tested schema rows n test chosen over_rows over_folds =
+    ap (λ rs. down schema rs n) (filter_agree test (λ row. chosen (place_of n row)) rows over_rows)
+    ∙ (folds_some_places schema rows n chosen
+    ∙ sym (filter_agree test (λ row. chosen (own_place row)) (down schema rows n) over_folds))
+
+pub folds_some_series : FoldsSomeSeries
+folds_some_series schema rows n chosen = folds_some_places schema rows n (λ p. chosen p.key)
 
 -- ---- keys
 

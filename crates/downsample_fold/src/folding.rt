@@ -1,6 +1,7 @@
 //! The direct fold of rows in row order, in one pass.
 ghost use Rattle.std.specs.Prelude.{◌≡◌, ◌≤◌, IfOk};
 ghost use Rattle.row_cells.specs.Fitting.{folded_form};
+ghost use Rattle.row_cells.specs.Limits.{most_documents};
 ghost use Rattle.row_cells.specs.RowLists.{AllFit, AreInRowOrder, documents};
 ghost use Rattle.time_text.specs.Interval.{ms_of};
 ghost use Rattle.downsample_fold.specs.Conditions.{AreOfOneSeries};
@@ -21,7 +22,7 @@ fn fold_runs(
     by: Interval,
 ) -> Result<Vec<Row>, NoMemory>
     requires fit { AllFit schema.now rows.now }
-    requires few { documents rows.now ≤ 16777216 }
+    requires few { documents rows.now ≤ most_documents }
     ensures { IfOk result (λ folded. folded.items ≡ joined schema.now (ms_of by) rows.now) }
 {
     let mut folded = Vec::new(alloc);
@@ -45,7 +46,7 @@ pub fn fold_all(
 ) -> Result<Vec<Row>, NoMemory>
     requires fit { AllFit schema.now rows.now }
     requires in_order { AreInRowOrder rows.now }
-    requires few { documents rows.now ≤ 16777216 }
+    requires few { documents rows.now ≤ most_documents }
     ensures folded { IfOk result (λ folded. folded.items ≡ down schema.now rows.now (ms_of by)) }
     ensures fit { IfOk result (λ folded. AllFit (folded_form schema.now) folded.items) }
     ensures in_order { IfOk result (λ folded. AreInRowOrder folded.items) }
@@ -65,7 +66,7 @@ pub fn fold_series(
     requires one_series { AreOfOneSeries rows.now }
     requires fit { AllFit schema.now rows.now }
     requires in_order { AreInRowOrder rows.now }
-    requires few { documents rows.now ≤ 16777216 }
+    requires few { documents rows.now ≤ most_documents }
     ensures folded { IfOk result (λ folded. folded.items ≡ down schema.now rows.now (ms_of by)) }
     ensures fit { IfOk result (λ folded. AllFit (folded_form schema.now) folded.items) }
     ensures in_order { IfOk result (λ folded. AreInRowOrder folded.items) }

@@ -1,7 +1,8 @@
 //! What holds of the direct fold, for the layers that fold series by series and in rounds.
 ghost use Rattle.downsample_fold.specs.Laws.{FoldsCompose, FoldsSorted, FoldsAnyOrder, FoldsSomeSeries, FoldsJoinSeries, FoldsJoinFirst, FoldsJoinNext, SeriesAscend};
 ghost use Rattle.downsample_fold.specs.Laws.{FoldsInOrder, FoldsAtStarts, FoldsFit, FoldsCountAll};
-ghost use Rattle.downsample_fold.specs.Measures.{CountsAreFolded, GaugesAreFolded, RisesAreFolded};
+ghost use Rattle.downsample_fold.specs.Laws.{BucketInFront, FoldsAnyForm, FoldsAreRows, FoldsJoinApart, FoldsKeepDimensions, FoldsKeepSeries, FoldsSettle, FoldsSomePlaces, FoldsTested, FoldsWiden, MergesAreFolds, RowsJoinSeries};
+ghost use Rattle.downsample_fold.specs.Measures.{CountsAreFolded, FoldsKeepRises, GaugesAreFolded, RisesAreFolded};
 ghost use Rattle.downsample_fold.specs.Totals.{FoldsKeepTotals};
 
 use fold_law::Fold;
@@ -23,6 +24,17 @@ pub fn fold_of_some_series()
     ensures { FoldsSomeSeries }
 {}
 
+/// Likewise the fold of the rows of some places, and a test that is one over each place and its fold goes inside.
+pub fn fold_of_some_places()
+    ensures places { FoldsSomePlaces }
+    ensures tested { FoldsTested }
+{}
+
+/// Folding commutes with widening.
+pub fn folds_widen()
+    ensures { FoldsWiden }
+{}
+
 /// A fold is the join of the folds of its series, and that of the first series is the join of theirs.
 pub fn folds_join_series()
     ensures ascending { SeriesAscend }
@@ -37,11 +49,13 @@ pub fn folds_keep_totals<F: Fold>()
     ensures { FoldsKeepTotals F.none F.merge }
 {}
 
-/// Such values are the number of documents, a gauge, and the rise of a counter in a schema that rises.
+/// Such values are the number of documents, a gauge, and the rise of a counter in a schema that rises; so the rise of
+/// a series' folds in order is that of its rows.
 pub fn measures_are_folded()
     ensures counts { CountsAreFolded }
     ensures gauges { GaugesAreFolded }
     ensures rises { RisesAreFolded }
+    ensures series { FoldsKeepRises }
 {}
 
 /// A fold is in row order with each series and bucket once, at the start of the bucket, fits the folded form
@@ -51,4 +65,33 @@ pub fn folds_keep_rows()
     ensures at_starts { FoldsAtStarts }
     ensures fit { FoldsFit }
     ensures counted { FoldsCountAll }
+{}
+
+/// A fold of what is folded already stays, and a fold doesn't ask whether its rows were folded.
+pub fn folds_settle()
+    ensures settled { FoldsSettle }
+    ensures form { FoldsAnyForm }
+{}
+
+/// A fold has the series of its rows, with their dimensions, and rows in row order are the join of their series.
+pub fn folds_keep_series()
+    ensures series { FoldsKeepSeries }
+    ensures dimensions { FoldsKeepDimensions }
+    ensures rows { RowsJoinSeries }
+{}
+
+/// Rows that lie apart fold apart: series that stand before others, and one bucket in front of other places.
+pub fn folds_join_apart()
+    ensures series { FoldsJoinApart }
+    ensures bucket { BucketInFront }
+{}
+
+/// Folds of rows of an index may stand in an index: they have its keys, and short lists.
+pub fn folds_are_rows()
+    ensures { FoldsAreRows }
+{}
+
+/// The merge of two rows of one series and bucket is their direct fold.
+pub fn merges_are_folds()
+    ensures { MergesAreFolds }
 {}

@@ -4,6 +4,7 @@ ghost use Rattle.std.specs.List.{prefix_len};
 ghost use Rattle.time_text.specs.Bucket.{bucket_start};
 ghost use Rattle.time_text.specs.Instant.{IsInstant};
 ghost use Rattle.time_text.specs.Interval.{ms_of};
+ghost use Rattle.row_cells.specs.Limits.{most_documents};
 ghost use Rattle.row_cells.specs.Each.{Each};
 ghost use Rattle.row_cells.specs.RowLists.{documents};
 ghost use Rattle.downsample_fold.specs.Columns.{fold_columns};
@@ -42,7 +43,7 @@ pub fn run_length(rows: &[Row], first: &Row, by: Interval) -> usize
 }
 
 fn count_documents(rows: &[Row]) -> u64
-    requires { documents rows.now ≤ 16777216 }
+    requires { documents rows.now ≤ most_documents }
     ensures { result ≡ documents rows.now }
 {
     let mut count = 0;
@@ -80,7 +81,7 @@ pub fn fold_run(
 ) -> Result<Row, NoMemory>
     requires first { IsInstant first.now.time }
     requires some { 0 < length rows.now }
-    requires few { documents rows.now ≤ 16777216 }
+    requires few { documents rows.now ≤ most_documents }
     requires cells { Each (λ row. length row.cells ≡ length schema.now.fields) rows.now }
     requires room { RowsHaveRoom schema.now.rises schema.now.fields (map (λ row. row.cells) rows.now) }
     ensures { IfOk result (λ row. row ≡ fold_at schema.now (place_of (ms_of by) first.now) rows.now) }

@@ -1,19 +1,5 @@
-//! Values from outside.
-use crate::{Both, Count, Fold, Gauge, Last, PairItem, Parts, Rise, Rising};
-
-// A counter that reads 100, 150, 20, 50 began again once: it rose by 50, by 20 and by 30.
-#[test]
-fn counters_rise_in_either_grouping(rt: HostRuntime) {
-    let whole = Some(Rise {
-        first: 100,
-        last: 50,
-        increase: 100,
-    });
-    let ab = Rising::none().add(&Some(100)).add(&Some(150));
-    let cd = Rising::none().add(&Some(20)).add(&None).add(&Some(50));
-    assert_eq!(rt; ab.merge(cd).0, whole);
-    assert_eq!(rt; ab.add(&Some(20)).add(&Some(50)).0, whole);
-}
+//! Generic folds at concrete types, through their bounds.
+use crate::{Both, Count, Fold, Gauge, Last, PairItem, Parts};
 
 // Two values and a last one that is absent.
 #[test]

@@ -1,5 +1,8 @@
 pub mod Beside
+pub mod Chained
 mod Fit
 pub mod Joined
+pub mod ReadBack
+pub mod Reading
 pub mod Spelled
 mod WordOrder

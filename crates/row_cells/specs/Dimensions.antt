@@ -5,6 +5,7 @@ use Rattle.std.specs.Cmp.Lexicographic.{slice_cmp}
 use Rattle.std.specs.Ordering.{nat_cmp}
 use Rattle.std.specs.declared.cmp.Ordering.TheVariants.{Less}
 use Rattle.row_cells.specs.declared.scalars.Scalar.{Scalar}
+use Rattle.row_cells.specs.Limits.{longest_path, longest_key}
 use Rattle.row_cells.specs.declared.scalars.Scalar.TheVariants.{Whole, Flag, Word}
 
 -- a dimension of a series: the path of its field, and its value
@@ -47,7 +48,7 @@ IsKeyValue (Flag b) = Unit {0}
 -- a path of 1 to 512 bytes of UTF-8, and a value
 pub record IsDimension (d : Dimension) : Type 0 where
   pub path_some : 0 < length d.path
-  pub path_short : length d.path ≤ 512
+  pub path_short : length d.path ≤ longest_path
   pub path_text : IsUtf8 d.path
   pub value_fits : IsKeyValue d.value
 
@@ -74,4 +75,4 @@ pub record SpellDimensionsAfter (below : List ℕ) (bytes : List ℕ) : Type 0 w
 pub record IsKey (bytes : List ℕ) : Type 0 where
   pub spells : SpellDimensionsAfter [] bytes
   pub some : 0 < length bytes
-  pub short : length bytes ≤ 4096
+  pub short : length bytes ≤ longest_key

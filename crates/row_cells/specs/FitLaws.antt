@@ -19,6 +19,7 @@ use Rattle.fold_law.specs.Gauges.{join_parts, join_present_parts, reach_of_parts
 use Rattle.fold_law.specs.Rises.{climb_of, join_rises, join_present_rises, reach_of_rise, rise_of_value, unsigned_abs-climb_of}
 use Rattle.row_cells.specs.Dimensions.{Dimension, key_bytes}
 use Rattle.row_cells.specs.Fitting.{IsNumberOf, IsValueOf, PartsFit, IsAggregate, RiseFits, LabelFits, RawGaugeFits, FoldedGaugeFits, GaugeFits, PlainCounterFits, RisenCounterFits, CounterFits, CellFits, CellsFit, with_dimension, dimensions_of, Fits, folded_form, FitsEither}
+use Rattle.row_cells.specs.Limits.{most_documents}
 use Rattle.time_text.specs.Instant.{IsInstant}
 use Rattle.row_cells.specs.Merging.{parts_of_value, parts_of, cell_of_parts, rise_of, cell_of_rise, last_cell, merge_cell, fold_cell, merge_cells, fold_cells, merge_of_rows, fold_of_row, HaveRoom, AllHaveRoom}
 
@@ -71,7 +72,7 @@ one_of_two P false x y p q = q
 
 -- ---- gauges
 
-abbrev PresentPartsFit : FieldType → ℕ → Option Parts → Type 0
+abbrev pub PresentPartsFit : FieldType → ℕ → Option Parts → Type 0
 PresentPartsFit kind n None = Unit {0}
 PresentPartsFit kind n (Some p) = PartsFit kind n p
 
@@ -109,7 +110,7 @@ folded_parts_fit kind n (Many vs) fits = absurd fits
 folded_parts_fit kind n (Gauge p) fits = fits
 folded_parts_fit kind n (RiseCell r) fits = absurd fits
 
-gauge_parts_fit : (folded : Bool) (kind : FieldType) (n : ℕ) (cell : Cell) → 1 ≤ n → GaugeFits folded kind n cell → PresentPartsFit kind n (parts_of cell)
+pub gauge_parts_fit : (folded : Bool) (kind : FieldType) (n : ℕ) (cell : Cell) → 1 ≤ n → GaugeFits folded kind n cell → PresentPartsFit kind n (parts_of cell)
 gauge_parts_fit false kind n cell some fits = raw_parts_fit kind n cell some fits
 gauge_parts_fit true kind n cell some fits = folded_parts_fit kind n cell fits
 
@@ -141,7 +142,7 @@ gauge_cell_fits : (kind : FieldType) (n : ℕ) (p : Option Parts) → PresentPar
 gauge_cell_fits kind n None fits = tt
 gauge_cell_fits kind n (Some p) fits = fits
 
-parts_reach : (kind : FieldType) (n : ℕ) (p : Option Parts) → PresentPartsFit kind n p → reach_of_parts p ≤ n * 2 ^ 63
+pub parts_reach : (kind : FieldType) (n : ℕ) (p : Option Parts) → PresentPartsFit kind n p → reach_of_parts p ≤ n * 2 ^ 63
 parts_reach kind n None fits = omega arith
 parts_reach kind n (Some p) fits =
     let count_within : unsigned_abs p.count ≤ n * (2 ^ 63 - 1) = within_abs p.count (n * (2 ^ 63 - 1)) fits.count_within (omega (arith, ints, fits.counted)) in
@@ -149,7 +150,7 @@ parts_reach kind n (Some p) fits =
 
 -- ---- counters
 
-abbrev PresentRiseFits : FieldType → ℕ → Option Rise → Type 0
+abbrev pub PresentRiseFits : FieldType → ℕ → Option Rise → Type 0
 PresentRiseFits kind n None = Unit {0}
 PresentRiseFits kind n (Some r) = RiseFits kind n r
 
@@ -178,7 +179,7 @@ risen_rise_fits kind n (Many vs) fits = absurd fits
 risen_rise_fits kind n (Gauge p) fits = absurd fits
 risen_rise_fits kind n (RiseCell r) fits = fits
 
-counter_rise_fits : (folded rises : Bool) (kind : FieldType) (n : ℕ) (cell : Cell) → CounterFits folded rises kind n cell → PresentRiseFits kind n (rise_of cell)
+pub counter_rise_fits : (folded rises : Bool) (kind : FieldType) (n : ℕ) (cell : Cell) → CounterFits folded rises kind n cell → PresentRiseFits kind n (rise_of cell)
 counter_rise_fits false rises kind n cell fits = plain_rise_fits kind n cell fits
 counter_rise_fits true false kind n cell fits = plain_rise_fits kind n cell fits
 counter_rise_fits true true kind n cell fits = risen_rise_fits kind n cell fits
@@ -224,7 +225,7 @@ rise_cell_fits : (kind : FieldType) (n : ℕ) (p : Option Rise) → PresentRiseF
 rise_cell_fits kind n None fits = tt
 rise_cell_fits kind n (Some p) fits = fits
 
-rise_reach : (kind : FieldType) (n : ℕ) (p : Option Rise) → 1 ≤ n → PresentRiseFits kind n p → reach_of_rise p ≤ n * 2 ^ 64
+pub rise_reach : (kind : FieldType) (n : ℕ) (p : Option Rise) → 1 ≤ n → PresentRiseFits kind n p → reach_of_rise p ≤ n * 2 ^ 64
 rise_reach kind n None some fits = omega arith
 rise_reach kind n (Some p) some fits =
     let increase_within : unsigned_abs p.increase ≤ (n - 1) * 2 ^ 64 = within_abs p.increase ((n - 1) * 2 ^ 64) fits.within (omega (arith, ints, fits.rose)) in
@@ -262,7 +263,7 @@ fold_cell_fits folded true kind Counter n c some f = rise_cell_fits kind n (rise
 fold_cell_fits folded false kind Counter n c some f = plain_of_counter folded kind n c f
 fold_cell_fits folded rises kind Label n c some f = f
 
-cell_has_room : (folded_a folded_b rises : Bool) (kind : FieldType) (role : Role) (m n : ℕ) (a b : Cell) → 1 ≤ m → 1 ≤ n → m + n ≤ 16777216 → CellFits folded_a rises kind role m a → CellFits folded_b rises kind role n b → HaveRoom role a b
+cell_has_room : (folded_a folded_b rises : Bool) (kind : FieldType) (role : Role) (m n : ℕ) (a b : Cell) → 1 ≤ m → 1 ≤ n → m + n ≤ most_documents → CellFits folded_a rises kind role m a → CellFits folded_b rises kind role n b → HaveRoom role a b
 cell_has_room folded_a folded_b rises kind Time m n a b some_a some_b few f g = tt
 cell_has_room folded_a folded_b rises kind DimensionRole m n a b some_a some_b few f g = tt
 cell_has_room folded_a folded_b rises kind GaugeRole m n a b some_a some_b few f g =
@@ -286,7 +287,7 @@ fold_cells_fit folded rises n [] (x ∷ xs) some f = absurd f
 fold_cells_fit folded rises n (h ∷ fs) [] some f = absurd f
 fold_cells_fit folded rises n (h ∷ fs) (x ∷ xs) some f = (fold_cell_fits folded rises h.kind h.role n x some f.0, fold_cells_fit folded rises n fs xs some f.1)
 
-cells_have_room : (folded_a folded_b rises : Bool) (m n : ℕ) (fs : List Field) (xs ys : List Cell) → 1 ≤ m → 1 ≤ n → m + n ≤ 16777216 → CellsFit folded_a rises m fs xs → CellsFit folded_b rises n fs ys → AllHaveRoom fs xs ys
+cells_have_room : (folded_a folded_b rises : Bool) (m n : ℕ) (fs : List Field) (xs ys : List Cell) → 1 ≤ m → 1 ≤ n → m + n ≤ most_documents → CellsFit folded_a rises m fs xs → CellsFit folded_b rises n fs ys → AllHaveRoom fs xs ys
 cells_have_room folded_a folded_b rises m n [] [] [] some_a some_b few f g = tt
 cells_have_room folded_a folded_b rises m n [] [] (y ∷ ys) some_a some_b few f g = absurd g
 cells_have_room folded_a folded_b rises m n [] (x ∷ xs) ys some_a some_b few f g = absurd f
@@ -318,14 +319,14 @@ folded_field GaugeRole path a ds rises = refl
 folded_field Counter path a ds rises = refl
 folded_field Label path a ds rises = refl
 
-dimensions_of-merge_cells : (rises : Bool) (fs : List Field) (xs ys : List Cell) → length xs ≡ length ys → dimensions_of fs (merge_cells rises fs xs ys) ≡ dimensions_of fs xs
+pub dimensions_of-merge_cells : (rises : Bool) (fs : List Field) (xs ys : List Cell) → length xs ≡ length ys → dimensions_of fs (merge_cells rises fs xs ys) ≡ dimensions_of fs xs
 dimensions_of-merge_cells rises [] xs ys same = refl
 dimensions_of-merge_cells rises (f ∷ fs) [] ys same = refl
 dimensions_of-merge_cells rises (f ∷ fs) (x ∷ xs) [] same = absurd (omega (arith, same))
 dimensions_of-merge_cells rises (f ∷ fs) (x ∷ xs) (y ∷ ys) same =
     plain_field f.role f.path x y (dimensions_of fs (merge_cells rises fs xs ys)) rises ∙ ap (with_dimension f.role f.path x) (dimensions_of-merge_cells rises fs xs ys (omega (arith, same)))
 
-dimensions_of-fold_cells : (rises : Bool) (fs : List Field) (xs : List Cell) → dimensions_of fs (fold_cells rises fs xs) ≡ dimensions_of fs xs
+pub dimensions_of-fold_cells : (rises : Bool) (fs : List Field) (xs : List Cell) → dimensions_of fs (fold_cells rises fs xs) ≡ dimensions_of fs xs
 dimensions_of-fold_cells rises [] xs = refl
 dimensions_of-fold_cells rises (f ∷ fs) [] = refl
 dimensions_of-fold_cells rises (f ∷ fs) (x ∷ xs) =
@@ -334,15 +335,15 @@ dimensions_of-fold_cells rises (f ∷ fs) (x ∷ xs) =
 -- ---- rows
 
 -- what a row keeps in either form
-record EitherForm (schema : Schema) (row : Row) : Type 0 where
-  folded : Bool
-  cells_fit : CellsFit folded schema.rises row.count schema.fields row.cells
-  key_is : row.key ≡ key_bytes (dimensions_of schema.fields row.cells)
-  instant : IsInstant row.time
-  counted : 1 ≤ row.count
-  count_within : row.count ≤ 16777216
+pub record EitherForm (schema : Schema) (row : Row) : Type 0 where
+  pub folded : Bool
+  pub cells_fit : CellsFit folded schema.rises row.count schema.fields row.cells
+  pub key_is : row.key ≡ key_bytes (dimensions_of schema.fields row.cells)
+  pub instant : IsInstant row.time
+  pub counted : 1 ≤ row.count
+  pub count_within : row.count ≤ most_documents
 
-either_form : (schema : Schema) (row : Row) → FitsEither schema row → EitherForm schema row
+pub either_form : (schema : Schema) (row : Row) → FitsEither schema row → EitherForm schema row
 either_form schema row fits =
     elim fits [
       | inl f ↦ record { folded = schema.folded; cells_fit = f.cells_fit; key_is = f.key_is; instant = f.instant; counted = f.counted; count_within = f.count_within }
@@ -350,7 +351,7 @@ either_form schema row fits =
     ]
 
 -- the fold of two rows fits the folded form
-pub merge_of_rows_fits : (schema : Schema) (a b : Row) → FitsEither schema a → FitsEither schema b → a.count + b.count ≤ 16777216 → Fits (folded_form schema) (merge_of_rows schema a b)
+pub merge_of_rows_fits : (schema : Schema) (a b : Row) → FitsEither schema a → FitsEither schema b → a.count + b.count ≤ most_documents → Fits (folded_form schema) (merge_of_rows schema a b)
 merge_of_rows_fits schema a b fits_a fits_b few =
     let f = either_form schema a fits_a in
     let g = either_form schema b fits_b in
@@ -379,7 +380,7 @@ fold_of_row_fits schema a fits =
     }
 
 -- the numbers of two rows leave room for their sums
-pub rows_have_room : (schema : Schema) (a b : Row) → FitsEither schema a → FitsEither schema b → a.count + b.count ≤ 16777216 → AllHaveRoom schema.fields a.cells b.cells
+pub rows_have_room : (schema : Schema) (a b : Row) → FitsEither schema a → FitsEither schema b → a.count + b.count ≤ most_documents → AllHaveRoom schema.fields a.cells b.cells
 rows_have_room schema a b fits_a fits_b few =
     let f = either_form schema a fits_a in
     let g = either_form schema b fits_b in

@@ -15,6 +15,7 @@ use Rattle.row_cells.specs.declared.rows.Row.{Row}
 use Rattle.fold_law.specs.declared.measures.Parts.{Parts}
 use Rattle.fold_law.specs.declared.counters.Rise.{Rise}
 use Rattle.row_cells.specs.Dimensions.{Dimension, key_bytes, IsBefore}
+use Rattle.row_cells.specs.Limits.{longest_word, most_documents}
 use Rattle.time_text.specs.Instant.{IsInstant}
 
 -- a number in the range of a type; the parts of an aggregate have 64 bits
@@ -30,7 +31,7 @@ IsNumberOf Boolean v = ⊥
 
 -- a single value of a type
 abbrev pub IsValueOf : FieldType → Scalar → Type 0
-IsValueOf Keyword (Word t) = IsUtf8 t × (length t ≤ 32766)
+IsValueOf Keyword (Word t) = IsUtf8 t × (length t ≤ longest_word)
 IsValueOf Boolean (Flag b) = Unit {0}
 IsValueOf Aggregate v = ⊥
 IsValueOf kind (Whole v) = IsNumberOf kind v
@@ -157,7 +158,7 @@ pub record Fits (schema : Schema) (row : Row) : Type 0 where
   pub key_is : row.key ≡ key_bytes (dimensions_of schema.fields row.cells)
   pub instant : IsInstant row.time
   pub counted : 1 ≤ row.count
-  pub count_within : row.count ≤ 16777216
+  pub count_within : row.count ≤ most_documents
   pub alone : schema.folded ≡ false → row.count ≡ 1
 
 -- the schema of the folds of its rows

@@ -50,10 +50,10 @@ non_negative : (v : ℤ) → pos 0 ≤ℤ v → pos (unsigned_abs v) ≡ v
 non_negative (pos n) above = refl
 non_negative (negsuc n) above = absurd (omega (arith, ints, above))
 
-above_least_is : (v : ℤ) → FitsSigned w64 v → pos (above_least v) ≡ v +ℤ pos (2 ^ 63)
+pub above_least_is : (v : ℤ) → FitsSigned w64 v → pos (above_least v) ≡ v +ℤ pos (2 ^ 63)
 above_least_is v fits = non_negative (v +ℤ pos (2 ^ 63)) (omega (arith, ints, fits))
 
-above_least_short : (v : ℤ) → FitsSigned w64 v → above_least v < 2 ^ 64
+pub above_least_short : (v : ℤ) → FitsSigned w64 v → above_least v < 2 ^ 64
 above_least_short v fits = omega (arith, ints, fits, above_least_is v fits)
 
 above_least_injective : (u v : ℤ) → FitsSigned w64 u → FitsSigned w64 v → above_least u ≡ above_least v → u ≡ v

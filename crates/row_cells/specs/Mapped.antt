@@ -7,12 +7,13 @@ use Rattle.row_cells.specs.declared.schemas.Schema.{Schema}
 use Rattle.row_cells.specs.declared.rows.Cell.{Cell}
 use Rattle.row_cells.specs.declared.rows.Cell.TheVariants.{Absent}
 use Rattle.row_cells.specs.Dimensions.{key_bytes}
+use Rattle.row_cells.specs.Limits.{longest_path, longest_key}
 use Rattle.row_cells.specs.Fitting.{CellsFit, FieldsAscend, dimensions_of}
 
 -- a path of 1 to 512 bytes of UTF-8
 pub record IsPath (path : List ℕ) : Type 0 where
   pub some : 0 < length path
-  pub short : length path ≤ 512
+  pub short : length path ≤ longest_path
   pub text : IsUtf8 path
 
 abbrev pub ArePaths : List Field → Type 0
@@ -70,4 +71,4 @@ series_bytes schema cells = key_bytes (dimensions_of schema.fields cells)
 -- the cells have a key: a routing field is present, and the bytes are few enough
 pub record HaveKey (schema : Schema) (cells : List Cell) : Type 0 where
   pub routed : is_routed schema cells ≡ true
-  pub short : length (series_bytes schema cells) ≤ 4096
+  pub short : length (series_bytes schema cells) ≤ longest_key

@@ -1,7 +1,9 @@
 -- Lists of rows: in row order, fitting, and how many documents they stand for.
-use Rattle.std.specs.Prelude.{◌≡◌, ℕ, ◌+◌, List, [], ◌∷◌, if◌then◌else◌}
-use Rattle.std.specs.Ordering.{is_le}
-use Rattle.std.specs.declared.cmp.Ordering.TheVariants.{Less}
+use Rattle.std.specs.Prelude.{◌≡◌, ◌⊎◌, ◌&&◌, ℕ, ℤ, ◌+◌, Bool, List, [], ◌∷◌, if◌then◌else◌}
+use Rattle.std.specs.List.{list_any}
+use Rattle.std.specs.Str.{bytes_eq}
+use Rattle.std.specs.Ordering.{is_le, int_eq}
+use Rattle.std.specs.declared.cmp.Ordering.TheVariants.{Less, Equal}
 use Rattle.row_cells.specs.declared.schemas.Schema.{Schema}
 use Rattle.row_cells.specs.declared.rows.Row.{Row}
 use Rattle.row_cells.specs.Each.{Each}
@@ -35,3 +37,22 @@ in_row_order (row ∷ rows) = insert_row row (in_row_order rows)
 abbrev pub documents : List Row → ℕ
 documents [] = 0
 documents (row ∷ rows) = row.count + documents rows
+
+-- a row is one of these
+abbrev pub IsAmong : Row → List Row → Type 0
+IsAmong row [] = ⊥
+IsAmong row (first ∷ rest) = (first ≡ row) ⊎ IsAmong row rest
+
+-- no two rows are of one series and time
+abbrev pub AreDistinct : List Row → Type 0
+AreDistinct [] = Unit {0}
+AreDistinct (row ∷ rows) = Each (λ other. row_cmp row other ≡ Equal → ⊥) rows × AreDistinct rows
+
+-- some row is of this series and time
+abbrev pub has_place : List ℕ → ℤ → List Row → Bool
+has_place key time rows = list_any (λ row. bytes_eq row.key key && int_eq row.time time) rows
+
+-- the first of the rows stands behind a row, and each of the others behind the one before it
+abbrev pub AreBehind : Row → List Row → Type 0
+AreBehind before [] = Unit {0}
+AreBehind before (row ∷ rows) = (row_cmp before row ≡ Less) × AreBehind row rows

@@ -17,26 +17,26 @@ use Rattle.row_cells.specs.Joining.{AllIn}
 use Rattle.row_cells.specs.JoinLaws.{before_chain, not_before_itself, ascend_lower, in_after}
 use Rattle.row_cells.specs.Widening.{cell_at, widen_cells, widen_of_row, in_form_of, take_if, walk_cells}
 
-same_bytes : (p q : List ℕ) → p ≡ q → bytes_eq p q ≡ true
+pub same_bytes : (p q : List ℕ) → p ≡ q → bytes_eq p q ≡ true
 same_bytes p q same = (bytes_eq-Decides p q).1 same
 
-other_bytes : (p q : List ℕ) → (p ≡ q → ⊥) → bytes_eq p q ≡ false
+pub other_bytes : (p q : List ℕ) → (p ≡ q → ⊥) → bytes_eq p q ≡ false
 other_bytes p q other = by_test (bytes_eq p q) refl
   where
     by_test : (b : Bool) → bytes_eq p q ≡ b → b ≡ false
     by_test true is = absurd (other ((bytes_eq-Decides p q).0 is))
     by_test false is = refl
 
-apart : (p q : List ℕ) → IsBefore p q → p ≡ q → ⊥
+pub apart : (p q : List ℕ) → IsBefore p q → p ≡ q → ⊥
 apart p q before same = not_before_itself q (subst (λ r. IsBefore r q) same before)
 
 -- fs are some of ts, in their order
-abbrev IsPartOf : List Field → List Field → Type 0
+abbrev pub IsPartOf : List Field → List Field → Type 0
 IsPartOf [] ts = Unit {0}
 IsPartOf (f ∷ fs) [] = ⊥
 IsPartOf (f ∷ fs) (t ∷ ts) = ((f ≡ t) × IsPartOf fs ts) ⊎ IsPartOf (f ∷ fs) ts
 
-part_of : (p : List ℕ) (fs ts : List Field) → FieldsAscendAfter p fs → FieldsAscendAfter p ts → AllIn fs ts → IsPartOf fs ts
+pub part_of : (p : List ℕ) (fs ts : List Field) → FieldsAscendAfter p fs → FieldsAscendAfter p ts → AllIn fs ts → IsPartOf fs ts
 part_of p [] ts ascend_f ascend_t all = tt
 part_of p (f ∷ fs) [] ascend_f ascend_t all = all f (inl refl)
 part_of p (f ∷ fs) (t ∷ ts) ascend_f ascend_t all =
@@ -64,7 +64,7 @@ part_after p f fs (t ∷ ts) ascend part =
       | inr there ↦ before_chain p t.path f.path ascend.0 (part_after t.path f fs ts ascend.1 there)
     ]
 
-part_ascends : (p : List ℕ) (fs ts : List Field) → FieldsAscendAfter p ts → IsPartOf fs ts → FieldsAscendAfter p fs
+pub part_ascends : (p : List ℕ) (fs ts : List Field) → FieldsAscendAfter p ts → IsPartOf fs ts → FieldsAscendAfter p fs
 part_ascends p [] ts ascend part = tt
 part_ascends p (f ∷ fs) [] ascend part = absurd part
 part_ascends p (f ∷ fs) (t ∷ ts) ascend part =
@@ -89,14 +89,14 @@ widen_later f c fs cs (t ∷ ts) ascend =
     cons_eq : {x y : Cell} {xs ys : List Cell} → x ≡ y → xs ≡ ys → x ∷ xs ≡ y ∷ ys
     cons_eq a b = cc
 
-widen_here : (f : Field) (c : Cell) (fs : List Field) (cs : List Cell) (ts : List Field) → FieldsAscendAfter f.path ts → widen_cells (f ∷ fs) (c ∷ cs) (f ∷ ts) ≡ c ∷ widen_cells fs cs ts
+pub widen_here : (f : Field) (c : Cell) (fs : List Field) (cs : List Cell) (ts : List Field) → FieldsAscendAfter f.path ts → widen_cells (f ∷ fs) (c ∷ cs) (f ∷ ts) ≡ c ∷ widen_cells fs cs ts
 widen_here f c fs cs ts ascend =
     ap (λ b. (if b then c else cell_at f.path fs cs) ∷ widen_cells (f ∷ fs) (c ∷ cs) ts) (same_bytes f.path f.path refl) ∙ ap (λ xs. c ∷ xs) (widen_later f c fs cs ts ascend)
 
-widen_absent : (t : Field) (fs : List Field) (cs : List Cell) (ts : List Field) → FieldsAscendAfter t.path fs → widen_cells fs cs (t ∷ ts) ≡ Absent ∷ widen_cells fs cs ts
+pub widen_absent : (t : Field) (fs : List Field) (cs : List Cell) (ts : List Field) → FieldsAscendAfter t.path fs → widen_cells fs cs (t ∷ ts) ≡ Absent ∷ widen_cells fs cs ts
 widen_absent t fs cs ts ascend = ap (λ x. x ∷ widen_cells fs cs ts) (absent_at t.path fs cs ascend)
 
-absent_fits : (folded rises : Bool) (kind : FieldType) (role : Role) (n : ℕ) → CellFits folded rises kind role n Absent
+pub absent_fits : (folded rises : Bool) (kind : FieldType) (role : Role) (n : ℕ) → CellFits folded rises kind role n Absent
 absent_fits folded rises kind Time n = tt
 absent_fits folded rises kind DimensionRole n = tt
 absent_fits false rises kind GaugeRole n = tt
@@ -106,7 +106,7 @@ absent_fits true false kind Counter n = tt
 absent_fits true true kind Counter n = tt
 absent_fits folded rises kind Label n = tt
 
-absent_dimension : (role : Role) (path : List ℕ) (ds : List Dimension) → with_dimension role path Absent ds ≡ ds
+pub absent_dimension : (role : Role) (path : List ℕ) (ds : List Dimension) → with_dimension role path Absent ds ≡ ds
 absent_dimension Time path ds = refl
 absent_dimension DimensionRole path ds = refl
 absent_dimension GaugeRole path ds = refl
@@ -130,7 +130,7 @@ widened_fit folded rises n p (f ∷ fs) (c ∷ cs) (t ∷ ts) ascend part fit =
           (absent_fits folded rises t.kind t.role n, widened_fit folded rises n t.path (f ∷ fs) (c ∷ cs) ts ascend.1 there fit)
     ]
 
-widened_dimensions : (folded rises : Bool) (n : ℕ) (p : List ℕ) (fs : List Field) (cs : List Cell) (ts : List Field) → FieldsAscendAfter p ts → IsPartOf fs ts → CellsFit folded rises n fs cs → dimensions_of ts (widen_cells fs cs ts) ≡ dimensions_of fs cs
+pub widened_dimensions : (folded rises : Bool) (n : ℕ) (p : List ℕ) (fs : List Field) (cs : List Cell) (ts : List Field) → FieldsAscendAfter p ts → IsPartOf fs ts → CellsFit folded rises n fs cs → dimensions_of ts (widen_cells fs cs ts) ≡ dimensions_of fs cs
 widened_dimensions folded rises n p [] [] [] ascend part fit = refl
 widened_dimensions folded rises n p [] [] (t ∷ ts) ascend part fit = absent_dimension t.role t.path (dimensions_of ts (widen_cells [] [] ts)) ∙ widened_dimensions folded rises n t.path [] [] ts ascend.1 tt tt
 widened_dimensions folded rises n p [] (c ∷ cs) ts ascend part fit = absurd fit

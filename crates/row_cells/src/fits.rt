@@ -1,7 +1,9 @@
 //! Whether cells fit the fields of a schema.
 ghost use Rattle.std.specs.Prelude.{◌≡◌, ◌↔◌, ℕ, pos, ◌≤ℤ◌, ◌+◌, ◌<◌, ◌≤◌, length, IsTrue};
+ghost use Rattle.row_cells.specs.Limits.{most_documents};
 ghost use Rattle.row_cells.specs.Fitting.{AreValues, AreValuesAfter, CellFits, CellsFit, CounterFits, DimensionFits, FoldedGaugeFits, GaugeFits, IsAggregate, IsNumberOf, IsValueOf, LabelFits, MayFollow, PartsFit, PlainCounterFits, RawGaugeFits, RiseFits, RisenCounterFits, TimeFits};
 
+use crate::limits::LONGEST_WORD;
 use crate::rows::Cell;
 use crate::scalars::Scalar;
 use crate::schemas::{Field, FieldType, Role};
@@ -9,8 +11,6 @@ use crate::words::bytes_order;
 use fold_law::{Parts, Rise};
 use std::cmp::Ordering;
 use time_text::is_instant;
-
-const LONGEST_TEXT: usize = 32_766;
 
 /// A number lies between two others.
 fn is_between(low: i64, high: i64, number: i64) -> bool
@@ -42,7 +42,7 @@ fn is_word_of(kind: FieldType, text: &str) -> bool
     ensures { IsTrue result ↔ IsValueOf kind (Scalar.Word text.now) }
 {
     match kind {
-        FieldType::Keyword => text.len() <= LONGEST_TEXT,
+        FieldType::Keyword => text.len() <= LONGEST_WORD,
         _ => false,
     }
 }
@@ -115,7 +115,7 @@ fn fits_raw_gauge(kind: FieldType, cell: &Cell) -> bool
 
 /// Parts are those of a gauge over so many documents.
 fn are_parts(kind: FieldType, documents: u64, parts: &Parts) -> bool
-    requires { documents ≤ 16777216 }
+    requires { documents ≤ most_documents }
     ensures { IsTrue result ↔ PartsFit kind documents parts.now }
 {
     let parts = *parts;
@@ -135,7 +135,7 @@ fn are_parts(kind: FieldType, documents: u64, parts: &Parts) -> bool
 }
 
 fn fits_folded_gauge(kind: FieldType, documents: u64, cell: &Cell) -> bool
-    requires { documents ≤ 16777216 }
+    requires { documents ≤ most_documents }
     ensures { IsTrue result ↔ FoldedGaugeFits kind documents cell.now }
 {
     match cell {
@@ -146,7 +146,7 @@ fn fits_folded_gauge(kind: FieldType, documents: u64, cell: &Cell) -> bool
 }
 
 fn fits_gauge(folded: bool, kind: FieldType, documents: u64, cell: &Cell) -> bool
-    requires { documents ≤ 16777216 }
+    requires { documents ≤ most_documents }
     ensures { IsTrue result ↔ GaugeFits folded kind documents cell.now }
 {
     if folded {
@@ -159,7 +159,7 @@ fn fits_gauge(folded: bool, kind: FieldType, documents: u64, cell: &Cell) -> boo
 /// A rise is one over so many documents.
 fn is_rise(kind: FieldType, documents: u64, rise: &Rise) -> bool
     requires some { 1 ≤ documents }
-    requires few { documents ≤ 16777216 }
+    requires few { documents ≤ most_documents }
     ensures { IsTrue result ↔ RiseFits kind documents rise.now }
 {
     let rise = *rise;
@@ -194,7 +194,7 @@ fn fits_plain_counter(kind: FieldType, cell: &Cell) -> bool
 
 fn fits_risen_counter(kind: FieldType, documents: u64, cell: &Cell) -> bool
     requires some { 1 ≤ documents }
-    requires few { documents ≤ 16777216 }
+    requires few { documents ≤ most_documents }
     ensures { IsTrue result ↔ RisenCounterFits kind documents cell.now }
 {
     match cell {
@@ -206,7 +206,7 @@ fn fits_risen_counter(kind: FieldType, documents: u64, cell: &Cell) -> bool
 
 fn fits_counter(folded: bool, rises: bool, kind: FieldType, documents: u64, cell: &Cell) -> bool
     requires some { 1 ≤ documents }
-    requires few { documents ≤ 16777216 }
+    requires few { documents ≤ most_documents }
     ensures { IsTrue result ↔ CounterFits folded rises kind documents cell.now }
 {
     if folded {
@@ -287,7 +287,7 @@ fn fits_label(kind: FieldType, cell: &Cell) -> bool
 /// A cell fits a field of a type and a role, over so many documents.
 fn fits_cell(folded: bool, rises: bool, field: &Field, documents: u64, cell: &Cell) -> bool
     requires some { 1 ≤ documents }
-    requires few { documents ≤ 16777216 }
+    requires few { documents ≤ most_documents }
     ensures { IsTrue result ↔ CellFits folded rises field.now.kind field.now.role documents cell.now }
 {
     let kind = field.kind;
@@ -309,7 +309,7 @@ pub fn fit_cells(
     cells: &[Cell],
 ) -> bool
     requires some { 1 ≤ documents }
-    requires few { documents ≤ 16777216 }
+    requires few { documents ≤ most_documents }
     ensures { IsTrue result ↔ CellsFit folded rises documents fields.now cells.now }
 {
     if fields.len() != cells.len() {

@@ -2,6 +2,7 @@
 ghost use Rattle.std.specs.Prelude.{◌≡◌, ◌+◌, ◌≤◌, IfOk, IsTrue, length, List};
 ghost use Rattle.row_cells.specs.Merging.{last_cell, merge_cell, fold_cell};
 ghost use Rattle.row_cells.specs.Merging.{AllHaveRoom, HaveRoom, fold_cells, fold_of_row, merge_cells, merge_of_rows};
+ghost use Rattle.row_cells.specs.Limits.{most_documents};
 ghost use Rattle.row_cells.specs.Fitting.{Fits, FitsEither, folded_form};
 ghost use Rattle.row_cells.specs.declared.rows.Row.{Row};
 ghost use Rattle.row_cells.specs.declared.schemas.Schema.{Schema};
@@ -128,7 +129,7 @@ pub fn merge_rows(
     requires earlier_fits { FitsEither schema.now earlier.now }
     requires later_fits { FitsEither schema.now later.now }
     requires one_series { earlier.now.key ≡ later.now.key }
-    requires few { earlier.now.count + later.now.count ≤ 16777216 }
+    requires few { earlier.now.count + later.now.count ≤ most_documents }
     ensures merged { IfOk result (λ row. row ≡ merge_of_rows schema.now earlier.now later.now) }
     ensures fits { Fits (folded_form schema.now) (merge_of_rows schema.now earlier.now later.now) }
 {

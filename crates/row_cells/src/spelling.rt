@@ -5,34 +5,10 @@ ghost use Rattle.row_cells.specs.Dimensions.{AreDimensions, Dimension, IsDimensi
 ghost use Rattle.row_cells.specs.Dimensions.{flag_byte, key_bytes, text_bytes, value_bytes, dimension_bytes};
 ghost use Rattle.row_cells.specs.declared.scalars.Scalar.{Scalar};
 
+use crate::limits::{LONGEST_KEY, LONGEST_PATH};
+use crate::texts::{TextAt, read_text};
+use crate::words::bytes_order;
 use std::cmp::Ordering;
-
-const LONGEST_KEY: usize = 4096;
-
-const LONGEST_PATH: usize = 512;
-
-/// A text that bytes begin with, and what follows it.
-#[derive(Clone, Copy)]
-struct Piece<'a> {
-    text: &'a [u8],
-    rest: &'a [u8],
-}
-
-/// Reads two bytes of length and as many bytes.
-fn read_text(bytes: &[u8]) -> Option<Piece<'_>>
-    ensures some { IfSome result (λ piece.
-        (bytes.now ≡ text_bytes piece.text.now ++ piece.rest.now) × (length piece.text.now < 2 ^ 16)) }
-    ensures none { IsNone result →
-        (text rest : List ℕ) → length text < 2 ^ 16 → bytes.now ≡ text_bytes text ++ rest → ⊥ }
-{
-    let (head, rest) = bytes.split_first_chunk::<2>()?;
-    let count = u16::from_be_bytes(*head) as usize;
-    if rest.len() < count {
-        return None;
-    }
-    let (text, rest) = rest.split_at(count);
-    Some(Piece { text, rest })
-}
 
 /// Skips a tag and the value that it announces.
 fn skip_value(bytes: &[u8]) -> Option<&[u8]>
@@ -82,7 +58,7 @@ fn skip_flag(bytes: &[u8]) -> Option<&[u8]>
 }
 
 /// Reads a dimension, and answers its path and what follows it.
-fn read_dimension(bytes: &[u8]) -> Option<Piece<'_>>
+fn read_dimension(bytes: &[u8]) -> Option<TextAt<'_>>
     ensures some { IfSome result (λ piece.
         (dimension : Dimension) × IsDimension dimension × (dimension.path ≡ piece.text.now)
         × (bytes.now ≡ dimension_bytes dimension ++ piece.rest.now)) }
@@ -97,7 +73,7 @@ fn read_dimension(bytes: &[u8]) -> Option<Piece<'_>>
     match str::from_utf8(path.text) {
         Ok(_) => {
             let rest = skip_value(path.rest)?;
-            Some(Piece {
+            Some(TextAt {
                 text: path.text,
                 rest,
             })
@@ -115,7 +91,7 @@ fn are_dimensions(bytes: &[u8]) -> bool
         let Some(piece) = read_dimension(rest) else {
             return false;
         };
-        match below.cmp(piece.text) {
+        match bytes_order(below, piece.text) {
             Ordering::Less => {
                 below = piece.text;
                 rest = piece.rest;

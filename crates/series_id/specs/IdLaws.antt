@@ -12,7 +12,7 @@ use Rattle.base64.proofs.EngineFacts.{decode_of-encode_of}
 use Rattle.row_cells.specs.Dimensions.{IsKey}
 use Rattle.time_text.specs.Instant.{IsInstant}
 use Rattle.row_cells.specs.KeyLaws.{same_front, same_back}
-use Rattle.series_id.specs.Bytes.{AreBytes, bytes_at, bytes_joined, eight_bytes, key_is_bytes}
+use Rattle.series_id.specs.ByteLaws.{AreBytes, bytes_at, bytes_joined, eight_bytes, key_is_bytes}
 use Rattle.series_id.specs.Ids.{base64url, id_bytes, id_of}
 
 -- what is read is one list of bytes, and no error

@@ -1,6 +1,6 @@
-pub mod Bytes
+pub mod ByteLaws
 pub mod Ids
 pub mod IdLaws
+pub mod KeyFaultLaws
 pub mod Keys
-pub mod KeyedLaws
-pub mod Samples
+pub mod RowParts

@@ -9,9 +9,7 @@ use crate::base64url;
 use edge_face::{NoMemory, Text};
 use row_cells::Key;
 use std::alloc::Global;
-
-/// The last instant of the year 9999, in milliseconds since 1970 began.
-const LAST_INSTANT: u64 = 253_402_300_799_999;
+use time_text::LAST_INSTANT;
 
 /// The id of the document of a series and an instant: base64 for URLs, without padding, of the key and of the
 /// time in eight bytes with the highest first.
@@ -48,7 +46,7 @@ fn cut_time(bytes: &[u8]) -> Option<Cut<'_>>
 {
     let (key, time) = bytes.split_last_chunk::<8>()?;
     let time = u64::from_be_bytes(*time);
-    if time > LAST_INSTANT {
+    if time > LAST_INSTANT as u64 {
         return None;
     }
     Some(Cut {
@@ -75,8 +73,7 @@ fn read_bytes(alloc: Global, bytes: &[u8]) -> Result<Option<Named>, NoMemory>
     }))
 }
 
-/// What the text names, or None exactly where it is the id of no key and instant.
-pub fn read_id(alloc: Global, text: &str) -> Result<Option<Named>, NoMemory>
+fn read_named(alloc: Global, text: &str) -> Result<Option<Named>, NoMemory>
     ensures some { IfOk result (λ found. IfSome found (λ named.
         (text.now ≡ id_of named.key named.time) × IsKey named.key × IsInstant named.time)) }
     ensures none { IfOk result (λ found. IsNone found →
@@ -87,6 +84,20 @@ pub fn read_id(alloc: Global, text: &str) -> Result<Option<Named>, NoMemory>
     };
     let named = read_bytes(alloc, bytes.as_slice())?;
     Ok(named)
+}
+
+/// What the text names, or None exactly where it is the id of no key and instant. An id that was written is read as
+/// what it was written of.
+pub fn read_id(alloc: Global, text: &str) -> Result<Option<Named>, NoMemory>
+    ensures some { IfOk result (λ found. IfSome found (λ named.
+        (text.now ≡ id_of named.key named.time) × IsKey named.key × IsInstant named.time)) }
+    ensures back { (key : List ℕ) (time : ℤ) → IsKey key → IsInstant time → text.now ≡ id_of key time →
+        IfOk result (λ found. IsSomeAnd found (λ named. (named.key ≡ key) × (named.time ≡ time))) }
+    ensures none { IfOk result (λ found. IsNone found →
+        (key : List ℕ) (time : ℤ) → IsKey key → IsInstant time → text.now ≡ id_of key time → ⊥) }
+{
+    let found = read_named(alloc, text)?;
+    Ok(found)
 }
 
 /// The law that an id tells its document: of two keys and instants with equal ids the keys are equal, and so are

@@ -6,15 +6,13 @@ ghost use Rattle.row_cells.specs.Fitting.{dimensions_of};
 ghost use Rattle.row_cells.specs.declared.rows.Cell.{Cell};
 ghost use Rattle.row_cells.specs.declared.schemas.Schema.{Schema};
 ghost use Rattle.row_cells.specs.Mapped.{AreCellsOf, HaveKey, IsMapped, any_present, is_present, series_bytes};
-ghost use Rattle.series_id.specs.Keys.{IsKeyFault};
+ghost use Rattle.series_id.specs.Keys.{IsKeyCause, IsKeyFault, keyed};
 
 use crate::spelling::spell;
 use edge_face::Bytes;
-use row_cells::{Cell, Key, Schema};
+use row_cells::{Cell, Key, LONGEST_KEY, Schema};
 use std::alloc::Global;
 use thiserror::Error;
-
-const LONGEST_KEY: usize = 4096;
 
 /// Why cells have no key.
 #[derive(Debug, Drop, Error)]
@@ -49,9 +47,8 @@ fn is_any_present(cells: &[Cell], places: &[u32]) -> bool
     false
 }
 
-/// The key of the series of cells that fit a schema. It is refused as `NoRouting` where no routing field is
-/// present, and else as `KeyTooLong` where it would have over 4,096 bytes.
-pub fn series_key(alloc: Global, schema: &Schema, cells: &[Cell]) -> Result<Key, KeyError>
+/// The key, or its fault.
+fn key_of(alloc: Global, schema: &Schema, cells: &[Cell]) -> Result<Key, KeyError>
     requires schema { IsMapped schema.now }
     requires cells { AreCellsOf schema.now cells.now }
     ensures key { IfOk result (λ key. (key ≡ series_bytes schema.now cells.now) × IsKey key) }
@@ -70,6 +67,23 @@ pub fn series_key(alloc: Global, schema: &Schema, cells: &[Cell]) -> Result<Key,
         });
     }
     Ok(Key::from_bytes(Bytes::from_vec(bytes)))
+}
+
+/// The key of the series of cells that fit a schema. It is refused as `NoRouting` where no routing field is
+/// present, and else as `KeyTooLong` where it would have over 4,096 bytes.
+pub fn series_key(alloc: Global, schema: &Schema, cells: &[Cell]) -> Result<Key, KeyError>
+    requires schema { IsMapped schema.now }
+    requires cells { AreCellsOf schema.now cells.now }
+    ensures keyed { IfOk result (λ key. keyed schema.now cells.now ≡ Ok key) }
+    ensures refused { IfErr result (IsKeyCause (keyed schema.now cells.now)) }
+    ensures key { IfOk result (λ key. (key ≡ series_bytes schema.now cells.now) × IsKey key) }
+    ensures have { IfOk result (λ key. HaveKey schema.now cells.now) }
+    ensures fault { IfErr result (IsKeyFault schema.now cells.now) }
+{
+    match key_of(alloc, schema, cells) {
+        Ok(key) => Ok(key),
+        Err(error) => Err(error),
+    }
 }
 
 /// The law that a key tells its dimensions: cells of one schema with equal keys have equal dimensions.

@@ -8,6 +8,7 @@ use Rattle.std.specs.declared.cmp.Ordering.TheVariants.{Less, Equal, Greater}
 use Rattle.row_cells.specs.declared.schemas.Field.{Field}
 use Rattle.row_cells.specs.declared.schemas.Schema.{Schema}
 use Rattle.row_cells.specs.Dimensions.{Dimension, key_bytes}
+use Rattle.row_cells.specs.Heads.{dimensions_in}
 
 abbrev pub path_of : Option Field → List ℕ
 path_of None = []
@@ -53,3 +54,7 @@ routing_hash paths ds = fnv1a (key_bytes (routing_part paths ds))
 -- the shard of a series of these dimensions
 abbrev pub shard_with : Schema → List Dimension → ℕ → ℕ
 shard_with schema ds shards = routing_hash (routing_paths schema.fields schema.routing) ds % shards
+
+-- the shard of a series by the bytes of its key
+abbrev pub shard_of_key : Schema → List ℕ → ℕ → ℕ
+shard_of_key schema key shards = shard_with schema (dimensions_in key) shards

@@ -6,9 +6,8 @@ ghost use Rattle.shard_route.specs.Routing as spec;
 ghost use Rattle.shard_route.specs.Routing.{is_among, routing_paths};
 ghost use Rattle.shard_route.specs.RoutingLaws.{Ascend, Looked};
 
-use crate::entries::read_entry;
 use crate::hashing::{OFFSET_BASIS, hash_on};
-use row_cells::Field;
+use row_cells::{Field, bytes_order, read_entry};
 use std::cmp::Ordering;
 
 /// What a look for a path finds: the routing fields that later paths may be among, and whether it is one.
@@ -35,7 +34,7 @@ fn look_for<'a>(fields: &[Field], places: &'a [u32], path: &[u8]) -> Look<'a>
 {
     let mut left = places;
     while let Some((place, rest)) = left.split_first() {
-        match path_of(fields, *place).cmp(path) {
+        match bytes_order(path_of(fields, *place), path) {
             Ordering::Less => left = rest,
             Ordering::Equal => {
                 return Look {

@@ -7,13 +7,17 @@ use Rattle.jiff_core.specs.Calendar.{IsBetween}
 use Rattle.time_text.specs.Shape.{◌>>=◌, has_shape, number}
 use Rattle.time_text.specs.Day.{day_number}
 
+-- the last millisecond of the year 9999
+abbrev pub last_instant : ℤ
+last_instant = pos 253_402_300_799_999
+
 -- a number of milliseconds since 1970-01-01T00:00:00Z, up to the last one of the year 9999
 abbrev pub IsInstant : ℤ → Type 0
-IsInstant t = IsBetween (pos 0) (pos 253_402_300_799_999) t
+IsInstant t = IsBetween (pos 0) last_instant t
 
 -- the number, if it is an instant
 abbrev pub in_range : ℤ → Option ℤ
-in_range t = if int_le (pos 0) t && int_le t (pos 253_402_300_799_999) then Some t else None
+in_range t = if int_le (pos 0) t && int_le t last_instant then Some t else None
 
 -- the day number of a text YYYY-MM-DD, if the calendar has that day
 unfoldable pub day_of : List ℕ → Option ℤ

@@ -2,6 +2,7 @@
 use Rattle.std.specs.Prelude.{◌≡◌, ℕ, ◌*◌, ◌%◌, ◌<◌, ◌≤◌, List, Some, ℤ, pos, ◌*ℤ◌, ◌≤ℤ◌}
 use Rattle.std.specs.Int.{IsInRange}
 use Rattle.time_text.specs.declared.units.Unit.{Unit as IntervalUnit}
+use Rattle.time_text.specs.Count.{longest}
 use Rattle.time_text.specs.Unit.{unit_ms}
 use Rattle.time_text.specs.Instant.{IsInstant, instant_of}
 use Rattle.time_text.specs.Interval.{interval_of, interval_text}
@@ -15,7 +16,7 @@ PrintedReadsBack = (t : ℤ) → IsInstant t → instant_of (instant_text t) ≡
 
 -- what is printed of an interval is read as that interval
 abbrev pub IntervalReadsBack : Type 0
-IntervalReadsBack = (number : ℕ) (unit : IntervalUnit) → IsInRange 1 253_402_300_799_999 (number * unit_ms unit) → interval_of (interval_text number unit) ≡ Some (number, unit)
+IntervalReadsBack = (number : ℕ) (unit : IntervalUnit) → IsInRange 1 longest (number * unit_ms unit) → interval_of (interval_text number unit) ≡ Some (number, unit)
 
 -- an interval is printed as it was written
 abbrev pub IntervalPrintsAsWritten : Type 0

@@ -1,10 +1,15 @@
 pub mod Bucket
+pub mod BucketLaws
 pub mod Count
 pub mod Day
+pub mod DayLaws
 pub mod Instant
 pub mod Interval
+pub mod IntervalLaws
 pub mod Laws
 pub mod Moment
 pub mod Printed
+pub mod PrintedLaws
 pub mod Shape
+pub mod ShapeLaws
 pub mod Unit

@@ -3,12 +3,12 @@ use Rattle.std.specs.Prelude.{ℕ, ◌*◌, if◌then◌else◌, List, take, dro
 use Rattle.std.specs.Int.{int_max, int_min}
 use Rattle.time_text.specs.Shape.{has_shape}
 use Rattle.time_text.specs.Unit.{unit_ms}
-use Rattle.time_text.specs.Instant.{instant_of}
+use Rattle.time_text.specs.Instant.{instant_of, last_instant}
 use Rattle.time_text.specs.Interval.{interval_of}
 
 -- the nearest instant
 abbrev pub cut : ℤ → ℤ
-cut t = int_max (pos 0) (int_min (pos 253_402_300_799_999) t)
+cut t = int_max (pos 0) (int_min last_instant t)
 
 -- the moment that an expression names where `now` is the present: `now`, `now+` or `now-` with an
 -- interval, cut to the range of instants, or else an instant text

@@ -16,6 +16,12 @@ four_digits n = two_digits (n / 100) ++ two_digits (n % 100)
 unfoldable pub date_text : ℕ → List ℕ
 date_text day = four_digits (year_of day) ++ codes "-" ++ two_digits (month_of day) ++ codes "-" ++ two_digits (day_of_month day)
 
+-- yyyy.MM.dd of the day of an instant, in UTC
+unfoldable pub day_text : ℤ → List ℕ
+day_text t =
+    let day = unsigned_abs t / 86_400_000 in
+    four_digits (year_of day) ++ codes "." ++ two_digits (month_of day) ++ codes "." ++ two_digits (day_of_month day)
+
 -- hh:mm:ss.mmm of the milliseconds since midnight
 unfoldable pub clock_text : ℕ → List ℕ
 clock_text millis =

@@ -10,7 +10,8 @@ use thiserror::Error;
 
 const DAY: i64 = 86_400_000;
 
-const LAST: i64 = 253_402_300_799_999;
+/// The last millisecond of the year 9999, since 1970 began in UTC.
+pub const LAST_INSTANT: i64 = 253_402_300_799_999;
 
 /// A text that is no instant.
 #[derive(Clone, Copy, Debug, PartialEq, Eq, Error)]
@@ -21,7 +22,7 @@ pub struct NotInstant;
 pub fn is_instant(time: i64) -> bool
     ensures { IsTrue result ↔ IsInstant time }
 {
-    0 <= time && time <= LAST
+    0 <= time && time <= LAST_INSTANT
 }
 
 /// Reads an instant, in milliseconds since 1970-01-01T00:00:00Z.

@@ -4,6 +4,7 @@ ghost use Rattle.std.specs.Char.{is_ascii_digit};
 ghost use Rattle.std.specs.List.{prefix_len};
 ghost use Rattle.std.specs.Str.{all_ascii_digits};
 ghost use Rattle.time_text.specs.Count as Count;
+ghost use Rattle.time_text.specs.Count.{longest};
 ghost use Rattle.time_text.specs.Bucket.{bucket_start};
 ghost use Rattle.time_text.specs.Unit.{unit_ms};
 
@@ -12,7 +13,8 @@ use crate::shapes::whole_number;
 use std::fmt;
 use thiserror::Error;
 
-const LONGEST: u64 = 253_402_300_799_999;
+/// The longest interval, in milliseconds.
+pub const LONGEST_INTERVAL: u64 = 253_402_300_799_999;
 
 /// A text that is no interval.
 #[derive(Clone, Copy, Debug, PartialEq, Eq, Error)]
@@ -24,39 +26,55 @@ pub struct NotInterval;
 pub struct Interval {
     pub number: u64,
     pub unit: Unit,
-    pub ghost in_range: { IsInRange 1 253_402_300_799_999 (number * unit_ms unit) },
+    pub ghost in_range: { IsInRange 1 longest (number * unit_ms unit) },
 }
 
 impl Interval {
     ghost use Rattle.time_text.specs.Instant.{IsInstant};
-    ghost use Rattle.time_text.specs.Interval.{ms_of, interval_of, with_value_in_range};
+    ghost use Rattle.time_text.specs.Interval.{ms_of, interval_of, interval_in, interval_with, with_value_in_range};
 
     /// Reads a number of one to fifteen digits without a leading zero, and a unit `ms`, `s`, `m`, `h` or
-    /// `d`. The length is from one millisecond to 253402300799999.
-    #[tactic(auto, unfolding(crate::specs::Interval::interval_of))]
+    /// `d`. The length is from one millisecond to `LONGEST_INTERVAL`.
     pub fn read(text: &str) -> Result<Interval, NotInterval>
+        ensures interval { IfOk result (λ i. interval_in text.now ≡ Some i) }
+        ensures none { IsErr result ↔ (interval_in text.now ≡ None) }
         ensures value { IfOk result (λ i. interval_of text.now ≡ Some (i.number, i.unit)) }
         ensures refused { IsErr result ↔ (interval_of text.now ≡ None) }
     {
-        let bytes = text.as_bytes();
-        let (digits, unit) = bytes.split_at(digits_end(bytes));
-        if !is_count(digits) {
-            return Err(NotInterval);
-        }
-        let number = whole_number(digits);
-        match Unit::read(unit) {
-            Some(unit) => Interval::of(number, unit).ok_or(NotInterval),
+        match Interval::read_parts(text) {
+            Some(interval) => Ok(interval),
             None => Err(NotInterval),
         }
     }
 
-    // The interval of this number of units, if it has an allowed length.
-    fn of(number: u64, unit: Unit) -> Option<Interval>
+    #[tactic(auto, unfolding(crate::specs::Interval::interval_of))]
+    fn read_parts(text: &str) -> Option<Interval>
+        ensures some { IfSome result (λ i. interval_of text.now ≡ Some (i.number, i.unit)) }
+        ensures none { IfNone result (interval_of text.now ≡ None) }
+    {
+        let bytes = text.as_bytes();
+        let (digits, unit) = bytes.split_at(digits_end(bytes));
+        if !is_count(digits) {
+            return None;
+        }
+        let number = whole_number(digits);
+        match Unit::read(unit) {
+            Some(unit) => Interval::of(number, unit),
+            None => None,
+        }
+    }
+
+    /// The interval of so many units, if it has an allowed length.
+    pub fn of(number: u64, unit: Unit) -> Option<Interval>
+        ensures is { result ≡ interval_with number unit }
         ensures some { IfSome result (λ i. with_value_in_range number unit ≡ Some (i.number, i.unit)) }
         ensures none { IfNone result (with_value_in_range number unit ≡ None) }
     {
         match number.checked_mul(unit.ms()) {
-            Some(millis) if 1 <= millis && millis <= LONGEST => Some(Interval { number, unit }),
+            Some(millis) if 1 <= millis && millis <= LONGEST_INTERVAL => Some(Interval {
+                number,
+                unit,
+            }),
             _ => None,
         }
     }

@@ -10,16 +10,14 @@ mod laws;
 mod moments;
 mod printing;
 mod shapes;
-#[cfg(test)]
-mod tests;
 mod units;
 
-pub use instants::{NotInstant, is_instant, read_instant};
-pub use intervals::{Interval, NotInterval};
+pub use instants::{LAST_INSTANT, NotInstant, is_instant, read_instant};
+pub use intervals::{Interval, LONGEST_INTERVAL, NotInterval};
 pub use laws::{
     bucket_is_greatest, buckets_nest, interval_reads_back, printed_dates_are_civil,
     printed_reads_back,
 };
-pub use moments::read_moment_expr;
-pub use printing::{print_instant, printed_str};
+pub use moments::{earlier, later, later_by, read_moment_expr};
+pub use printing::{day_str, print_day, print_instant, printed_str};
 pub use units::Unit;

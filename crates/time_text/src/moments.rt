@@ -3,9 +3,7 @@ ghost use Rattle.time_text.specs.Instant.{IsInstant};
 ghost use Rattle.time_text.specs.Interval.{ms_of};
 ghost use Rattle.time_text.specs.Moment.{moment_of, cut};
 
-use crate::{Interval, NotInstant, read_instant};
-
-const LAST: i64 = 253_402_300_799_999;
+use crate::{Interval, LAST_INSTANT, NotInstant, read_instant};
 
 /// Reads a moment expression: an instant text, or `now`, `now+` or `now-` with an interval, cut to the
 /// range of instants.
@@ -34,15 +32,26 @@ pub fn read_moment_expr(text: &str, now: i64) -> Result<i64, NotInstant>
     read_instant(text)
 }
 
-fn later(now: i64, by: Interval) -> i64
+/// An interval later, and no later than the last instant.
+pub fn later(now: i64, by: Interval) -> i64
     requires { IsInstant now }
     ensures value { result ≡ cut (now +ℤ pos (ms_of by)) }
     ensures in_range { IsInstant result }
 {
-    cut(now + by.ms())
+    later_by(now, by.ms())
 }
 
-fn earlier(now: i64, by: Interval) -> i64
+/// So many milliseconds later, cut to the range of instants.
+pub fn later_by(now: i64, millis: i64) -> i64
+    requires { IsInstant now }
+    ensures value { result ≡ cut (now +ℤ millis) }
+    ensures in_range { IsInstant result }
+{
+    cut(now.saturating_add(millis))
+}
+
+/// An interval earlier, and no earlier than the first instant.
+pub fn earlier(now: i64, by: Interval) -> i64
     requires { IsInstant now }
     ensures value { result ≡ cut (now -ℤ pos (ms_of by)) }
     ensures in_range { IsInstant result }
@@ -54,5 +63,5 @@ fn cut(t: i64) -> i64
     ensures value { result ≡ cut t }
     ensures in_range { IsInstant result }
 {
-    t.min(LAST).max(0)
+    t.min(LAST_INSTANT).max(0)
 }

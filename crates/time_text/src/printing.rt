@@ -24,6 +24,29 @@ pub fn print_instant(t: i64) -> [u8; 24]
     ]
 }
 
+/// Prints the day of an instant as `yyyy.MM.dd`, in UTC.
+#[tactic(auto, unfolding(crate::specs::Printed::day_text))]
+pub fn print_day(t: i64) -> [u8; 10]
+    requires { IsInstant t }
+    ensures text { result ≡ Printed.day_text t }
+    ensures ascii { IsAscii result }
+{
+    let (year, month, day) = civil_day(t as u64 / 86_400_000);
+    let [y1, y2] = two_digits(year / 100);
+    let [y3, y4] = two_digits(year % 100);
+    let [m1, m2] = two_digits(month);
+    let [d1, d2] = two_digits(day);
+    [y1, y2, y3, y4, b'.', m1, m2, b'.', d1, d2]
+}
+
+/// What `print_day` printed, as a text.
+pub fn day_str(printed: &[u8; 10]) -> &str
+    requires { IsAscii printed.now }
+    ensures { result.now ≡ printed.now }
+{
+    str::from_utf8(printed).unwrap()
+}
+
 /// What `print_instant` printed, as a text.
 pub fn printed_str(printed: &[u8; 24]) -> &str
     requires { IsAscii printed.now }

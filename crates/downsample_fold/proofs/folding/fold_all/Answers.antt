@@ -1,7 +1,7 @@
 use Rattle.std.proofs.Common.{◌∙◌, arith}
 use Rattle.time_text.specs.Interval.{ms_of}
 use Rattle.downsample_fold.specs.FoldLaws.{joined-down, folds_fit, folds_in_order, folds_count_all}
-use Rattle.downsample_fold.specs.JoinedFits.{AllFit-cells}
+use Rattle.downsample_fold.specs.JoinedFitLaws.{AllFit-cells}
 use Rattle.downsample_fold.proofs.folding.fold_all.Goals as goal
 
 pub returns-clause-folded : goal.returns-clause-folded

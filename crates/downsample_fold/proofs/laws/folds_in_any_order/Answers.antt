@@ -1,5 +1,4 @@
-use Rattle.downsample_fold.specs.FoldLaws.{folds_sorted}
-use Rattle.downsample_fold.specs.SetLaws.{folds_any_order}
+use Rattle.downsample_fold.specs.FoldLaws.{folds_any_order, folds_sorted}
 use Rattle.downsample_fold.proofs.laws.folds_in_any_order.Goals as goal
 
 pub returns-clause-sorted : goal.returns-clause-sorted

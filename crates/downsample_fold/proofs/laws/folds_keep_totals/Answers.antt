@@ -1,4 +1,4 @@
-use Rattle.downsample_fold.specs.Totals.{folds_keep_totals}
+use Rattle.downsample_fold.specs.TotalLaws.{folds_keep_totals}
 use Rattle.downsample_fold.proofs.laws.folds_keep_totals.Goals as goal
 
 pub returns : goal.returns

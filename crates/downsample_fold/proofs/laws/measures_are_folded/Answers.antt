@@ -1,4 +1,4 @@
-use Rattle.downsample_fold.specs.Measures.{counts_are_folded, gauges_are_folded, rises_are_folded}
+use Rattle.downsample_fold.specs.MeasureLaws.{counts_are_folded, gauges_are_folded, folds_keep_rises, rises_are_folded}
 use Rattle.downsample_fold.proofs.laws.measures_are_folded.Goals as goal
 
 pub returns-clause-counts : goal.returns-clause-counts
@@ -9,3 +9,6 @@ returns-clause-gauges c = gauges_are_folded
 
 pub returns-clause-rises : goal.returns-clause-rises
 returns-clause-rises c = rises_are_folded
+
+pub returns-clause-series : goal.returns-clause-series
+returns-clause-series c = folds_keep_rises

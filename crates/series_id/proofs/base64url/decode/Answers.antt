@@ -1,5 +1,5 @@
 use Rattle.std.proofs.Common.{◌∙◌, sym, refl}
-use Rattle.series_id.specs.Bytes.{bytes_at}
+use Rattle.series_id.specs.ByteLaws.{bytes_at}
 use Rattle.series_id.specs.Ids.{base64url}
 use Rattle.series_id.specs.IdLaws.{same_bytes, no_error}
 use Rattle.series_id.proofs.base64url.decode.Goals as goal

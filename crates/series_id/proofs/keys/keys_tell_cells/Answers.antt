@@ -1,4 +1,4 @@
-use Rattle.series_id.specs.KeyedLaws.{same_key_same_dimensions}
+use Rattle.row_cells.specs.KeyedLaws.{same_key_same_dimensions}
 use Rattle.series_id.proofs.keys.keys_tell_cells.Goals as goal
 
 pub returns : goal.returns

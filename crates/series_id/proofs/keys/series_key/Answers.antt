@@ -1,17 +1,10 @@
-use Rattle.std.proofs.Common.{◌≡◌, ◌≤◌, ◌∙◌, sym, ap, subst, rules, length, true}
-use Rattle.row_cells.specs.Dimensions.{IsKey, key_bytes}
-use Rattle.row_cells.specs.Fitting.{dimensions_of}
-use Rattle.row_cells.specs.Mapped.{is_routed, series_bytes}
-use Rattle.series_id.specs.KeyedLaws.{cells_spellable, series_is_key}
+use Rattle.std.proofs.Common.{ap, sym, ◌∙◌}
+use Rattle.std.specs.declared.result.Result.TheVariants.{Ok}
+use Rattle.series_id.specs.KeyFaultLaws.{keyed_ok, keyed_fault}
 use Rattle.series_id.proofs.keys.series_key.Goals as goal
 
-pub spell-requires : goal.spell-requires
-spell-requires c =
-    rw c.as_slice-2.ensures (cells_spellable c.args.schema.now.folded c.args.schema.now.rises c.requires.cells.documents c.args.schema.now.fields c.args.cells.now c.requires.schema.paths c.requires.cells.fit)
+pub returns-in-Ok-clause-keyed : goal.returns-in-Ok-clause-keyed
+returns-in-Ok-clause-keyed c = keyed_ok c.args.schema.now c.args.cells.now c.in-Ok.ensures.have ∙ ap (λ key. Ok key) (sym c.in-Ok.ensures.key.0)
 
-pub from_bytes-requires : goal.from_bytes-requires
-from_bytes-requires c =
-    let made : c.from_vec.result ≡ series_bytes c.args.schema.now c.args.cells.now = c.from_vec.ensures ∙ (c.in-Ok.ensures ∙ ap (λ fs. key_bytes (dimensions_of fs c.args.cells.now)) c.as_slice-2.ensures) in
-    let routed : is_routed c.args.schema.now c.args.cells.now ≡ true = search rules in
-    let short : length (series_bytes c.args.schema.now c.args.cells.now) ≤ 4096 = search rules in
-    subst IsKey (sym made) (series_is_key c.args.schema.now c.args.cells.now c.requires.schema c.requires.cells routed short)
+pub returns-in-Err-clause-refused : goal.returns-in-Err-clause-refused
+returns-in-Err-clause-refused c = keyed_fault c.args.schema.now c.args.cells.now c.in-Err.error c.in-Err.ensures.fault

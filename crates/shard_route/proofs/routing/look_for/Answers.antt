@@ -13,7 +13,7 @@ loop-place-preserved c =
     let first = path_of (slice_get c.args.fields.now c.in-Some.place.now) in
     let others = routing_paths c.args.fields.now c.in-Some.rest.now in
     let seen : routing_paths c.args.fields.now c.loop-place.left.now ≡ first ∷ others = ap (routing_paths c.args.fields.now) c.in-Some.ensures.cases.0 in
-    let less = ap (λ p. slice_cmp nat_cmp p path) (sym c.path_of.ensures) ∙ (sym c.cmp.ensures ∙ c.in-Less.is) in
+    let less = ap (λ p. slice_cmp nat_cmp p path) (sym c.path_of.ensures) ∙ (sym c.bytes_order.ensures ∙ c.in-Less.is) in
     record {
       looked = look_less path first others all less (subst (λ ps. Looked path ps all) seen c.loop-place.invariant.looked);
       among = sym (among_less path first others less) ∙ (ap (is_among path) (sym seen) ∙ c.loop-place.invariant.among);
@@ -26,7 +26,7 @@ returns-in-Equal-clause-looked c =
     let first = path_of (slice_get c.args.fields.now c.in-Some.place.now) in
     let others = routing_paths c.args.fields.now c.in-Some.rest.now in
     let seen : routing_paths c.args.fields.now c.loop-place.left.now ≡ first ∷ others = ap (routing_paths c.args.fields.now) c.in-Some.ensures.cases.0 in
-    let equal = ap (λ p. slice_cmp nat_cmp p path) (sym c.path_of.ensures) ∙ (sym c.cmp.ensures ∙ c.in-Equal.is) in
+    let equal = ap (λ p. slice_cmp nat_cmp p path) (sym c.path_of.ensures) ∙ (sym c.bytes_order.ensures ∙ c.in-Equal.is) in
     look_equal path first others all equal (subst (λ ps. Looked path ps all) seen c.loop-place.invariant.looked)
 
 pub returns-in-Greater-clause-routes : goal.returns-in-Greater-clause-routes
@@ -35,5 +35,5 @@ returns-in-Greater-clause-routes c =
     let first = path_of (slice_get c.args.fields.now c.in-Some.place.now) in
     let others = routing_paths c.args.fields.now c.in-Some.rest.now in
     let seen : routing_paths c.args.fields.now c.loop-place.left.now ≡ first ∷ others = ap (routing_paths c.args.fields.now) c.in-Some.ensures.cases.0 in
-    let greater = ap (λ p. slice_cmp nat_cmp p path) (sym c.path_of.ensures) ∙ (sym c.cmp.ensures ∙ c.in-Greater.is) in
+    let greater = ap (λ p. slice_cmp nat_cmp p path) (sym c.path_of.ensures) ∙ (sym c.bytes_order.ensures ∙ c.in-Greater.is) in
     sym (among_greater path first others greater (subst Ascend seen c.loop-place.invariant.looked.ascend)) ∙ (ap (is_among path) (sym seen) ∙ c.loop-place.invariant.among)

@@ -2,7 +2,7 @@ use Rattle.std.proofs.Common.{arith, refl, ◌≡◌, ◌∙◌, pos, Some, ap, 
 use Rattle.std.specs.Int.{w16}
 use Rattle.std.proofs.lemmas.Int.{ints, to_z_pos}
 use Rattle.jiff_core.specs.Calendar.{days_from_civil}
-use Rattle.time_text.proofs.DayLemmas.{day_number-date}
+use Rattle.time_text.specs.DayLaws.{day_number-date}
 use Rattle.time_text.proofs.days.day_number.Goals as goal
 
 pub returns-in-Ok-clause-value : goal.returns-in-Ok-clause-value

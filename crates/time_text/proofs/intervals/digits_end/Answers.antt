@@ -2,7 +2,7 @@ use Rattle.std.proofs.Common.{rules, ◌≡◌, length}
 use Rattle.std.specs.Char.{is_ascii_digit}
 use Rattle.std.specs.List.{prefix_len}
 use Rattle.std.proofs.lemmas.List.Sums.{prefix_len-drop_no, prefix_len-drop_all}
-use Rattle.time_text.proofs.ShapeLemmas.{digits_in_front}
+use Rattle.time_text.specs.ShapeLaws.{digits_in_front}
 use Rattle.time_text.proofs.intervals.digits_end.Goals as goal
 
 pub returns-then-not-is_ascii_digit-clause-digits : goal.returns-then-not-is_ascii_digit-clause-digits

@@ -1,4 +1,4 @@
-use Rattle.time_text.proofs.BucketLemmas.{greatest, of_instant}
+use Rattle.time_text.specs.BucketLaws.{greatest, of_instant}
 use Rattle.time_text.proofs.laws.bucket_is_greatest.Goals as goal
 
 pub returns-clause-greatest : goal.returns-clause-greatest

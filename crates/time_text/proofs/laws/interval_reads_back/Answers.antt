@@ -1,4 +1,4 @@
-use Rattle.time_text.proofs.IntervalLemmas.{reads_back, prints_as_written}
+use Rattle.time_text.specs.IntervalLaws.{reads_back, prints_as_written}
 use Rattle.time_text.proofs.laws.interval_reads_back.Goals as goal
 
 pub returns-clause-reads : goal.returns-clause-reads

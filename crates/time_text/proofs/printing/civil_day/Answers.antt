@@ -2,7 +2,7 @@ use Rattle.std.proofs.Common.{arith, refl, ◌≡◌, ◌∙◌, pos, w64, to_z,
 use Rattle.std.specs.Int.{w16}
 use Rattle.std.proofs.lemmas.Int.{ints, to_z_pos}
 use Rattle.time_text.specs.Day.{year_of}
-use Rattle.time_text.proofs.DayLemmas.{civil_of_day, parts_of_date}
+use Rattle.time_text.specs.DayLaws.{civil_of_day, parts_of_date}
 use Rattle.time_text.proofs.printing.civil_day.Goals as goal
 
 pub overflow_cast-result : goal.overflow_cast-result

@@ -1,7 +1,7 @@
 use Rattle.std.proofs.Common.{ℕ, List, subst, sym, w64, FitsSigned}
 use Rattle.std.proofs.lemmas.Int.{to_z-of_z}
 use Rattle.std.specs.Str.{IsAscii}
-use Rattle.time_text.proofs.PrintedLemmas.{instant_text-bytes, instant_text_ascii}
+use Rattle.time_text.specs.PrintedLaws.{instant_text-bytes, instant_text_ascii}
 use Rattle.time_text.proofs.printing.print_instant.Goals as goal
 
 pub returns-clause-text : goal.returns-clause-text

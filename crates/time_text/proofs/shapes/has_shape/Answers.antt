@@ -1,5 +1,5 @@
 use Rattle.std.proofs.Common.{sym}
-use Rattle.time_text.proofs.ShapeLemmas.{has_shape-length}
+use Rattle.time_text.specs.ShapeLaws.{has_shape-length}
 use Rattle.time_text.proofs.shapes.has_shape.Goals as goal
 
 pub returns-then-shape-text : goal.returns-then-shape-text

@@ -1,6 +1,6 @@
 use Rattle.std.proofs.Common.{arith, rules, ◌<◌, length}
 use Rattle.std.proofs.lemmas.Str.Parse.{digits_value_short, digits_value-take-le}
-use Rattle.time_text.proofs.ShapeLemmas.{own, digit_in, number_more, number_fits}
+use Rattle.time_text.specs.ShapeLaws.{own, digit_in, number_more, number_fits}
 use Rattle.time_text.proofs.shapes.whole_number.Goals as goal
 
 pub overflow_mul-number : goal.overflow_mul-number
