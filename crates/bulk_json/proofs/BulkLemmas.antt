@@ -1,17 +1,18 @@
 -- Lines and items, step by step.
-use Rattle.std.proofs.Common.{◌≡◌, ◌∙◌, ℕ, suc, ◌+◌, ◌<◌, take, drop, add-one, append-nil, Bool, true, false, cond, List, [], ◌∷◌, ◌++◌, length, map, refl, ap, sym, arith, ◌==◌, append_assoc, Option, None, Some, Ok, Err}
+use Rattle.std.proofs.Common.{◌≡◌, ◌∙◌, ℕ, suc, ◌+◌, ◌<◌, take, drop, add-one, append-nil, Bool, true, false, cond, List, [], ◌∷◌, ◌++◌, length, map, refl, ap, sym, subst, arith, ◌==◌, append_assoc, Option, None, Some, Ok, Err}
 use Rattle.std.specs.Prelude.{Result, if◌then◌else◌}
 use Rattle.std.proofs.lemmas.Bool.Decides.{nat_tests}
 use Rattle.std.proofs.Math.Seq.{take-length, drop-length}
 use Rattle.edge_face.specs.Lines.{piece_of, after_piece, pieces_of, with_first, IsNewlineAt, HasNoNewline}
-use Rattle.edge_face.proofs.LinesLemmas.{piece-at, after-at, piece-none, after-none}
+use Rattle.edge_face.specs.LinesLaws.{piece-at, after-at, piece-none, after-none}
 use Rattle.bulk_json.specs.Lines.{line_in, lines_of, is_blank}
 use Rattle.bulk_json.specs.Actions.{takes_source, asked_of}
 use Rattle.bulk_json.specs.Items.{onto, item, items_from, items_by, with_source, ahead_of}
+use Rattle.bulk_json.specs.Sound.{IsItem, AreItems}
 use Rattle.bulk_json.specs.declared.action.Asked.{Asked}
 use Rattle.bulk_json.specs.declared.items.Item.{Item}
-use Rattle.bulk_json.specs.declared.items.BulkError.{BulkError}
-use Rattle.bulk_json.specs.declared.items.BulkError.TheVariants.{BadAction, MissingSource}
+use Rattle.bulk_json.specs.declared.errors.BulkError.{BulkError}
+use Rattle.bulk_json.specs.declared.errors.BulkError.TheVariants.{BadAction, MissingSource}
 
 pieces-first : (b : ℕ) (bytes : List ℕ) → pieces_of (b ∷ bytes) ≡ piece_of (b ∷ bytes) ∷ pieces_of (after_piece (b ∷ bytes))
 pieces-first b [] = go (b == 10)
@@ -32,11 +33,6 @@ lines-first [] line rest some is after = absurd (omega (arith, some))
 lines-first (b ∷ bytes) line rest some is after =
     ap (map line_in) (pieces-first b bytes)
     ∙ sym (ap (λ l. l ∷ lines_of rest) is ∙ ap (λ r. line_in (piece_of (b ∷ bytes)) ∷ lines_of r) after)
-
--- items that stand before others
-pub onto-onto : (front : List Item) (next : Item) (later : Result (List Item) BulkError) → onto front (onto (next ∷ []) later) ≡ onto (front ++ next ∷ []) later
-onto-onto front next (Ok others) = ap Ok (sym (append_assoc front (next ∷ []) others))
-onto-onto front next (Err e) = refl
 
 -- what an action gives with the lines behind it
 abbrev pub acted : Option (List ℕ) → ℕ → List (List ℕ) → Asked → Result (List Item) BulkError
@@ -59,11 +55,16 @@ pub behind-source : (path : Option (List ℕ)) (n : ℕ) (asked : Asked) (lines 
     → acted path n lines asked ≡ with_source path n asked lines
 behind-source path n asked lines some = ap (λ b. cond b (with_source path n asked lines) (onto (item asked None ∷ []) (items_from path (n + 1) lines))) some
 
+-- no item before others
+onto-none : (later : Result (List Item) BulkError) → onto [] later ≡ later
+onto-none (Ok others) = refl
+onto-none (Err e) = refl
+
 -- a blank line is passed
-pub passed : (path : Option (List ℕ)) (n : ℕ) (bytes line rest : List ℕ) (items : List Item) → 0 < length bytes → line ≡ line_in (piece_of bytes) → rest ≡ after_piece bytes → is_blank line ≡ true
-    → onto items (ahead_of path (n + 1) rest) ≡ onto items (ahead_of path n bytes)
-passed path n bytes line rest items some is after blank =
-    sym (ap (λ l. onto items (items_from path n l)) (lines-first bytes line rest some is after) ∙ ap (onto items) (blank-line path n line (lines_of rest) blank))
+pub passed : (path : Option (List ℕ)) (n : ℕ) (bytes line rest : List ℕ) → 0 < length bytes → line ≡ line_in (piece_of bytes) → rest ≡ after_piece bytes → is_blank line ≡ true
+    → onto [] (ahead_of path (n + 1) rest) ≡ ahead_of path n bytes
+passed path n bytes line rest some is after blank =
+    onto-none (ahead_of path (n + 1) rest) ∙ sym (ap (items_from path n) (lines-first bytes line rest some is after) ∙ blank-line path n line (lines_of rest) blank)
 
 -- a line that is no action
 pub no-action : (path : Option (List ℕ)) (n : ℕ) (bytes line rest : List ℕ) (asked : Option Asked) → 0 < length bytes → line ≡ line_in (piece_of bytes) → rest ≡ after_piece bytes → is_blank line ≡ false
@@ -80,13 +81,11 @@ an-action path n bytes line rest found asked some is after other action hit =
     ∙ ap (λ a. items_by n a (acted path n (lines_of rest))) hit
 
 -- an action without a source
-pub taken-alone : (path : Option (List ℕ)) (n : ℕ) (bytes line rest : List ℕ) (found : Option Asked) (asked : Asked) (before now : List Item) → 0 < length bytes → line ≡ line_in (piece_of bytes) → rest ≡ after_piece bytes
-    → is_blank line ≡ false → found ≡ asked_of path line → found ≡ Some asked → takes_source asked.action ≡ false → now ≡ before ++ item asked None ∷ []
-    → onto now (ahead_of path (n + 1) rest) ≡ onto before (ahead_of path n bytes)
-taken-alone path n bytes line rest found asked before now some is after other action hit none grown =
-    ap (λ l. onto l (ahead_of path (n + 1) rest)) grown
-    ∙ sym (ap (onto before) (an-action path n bytes line rest found asked some is after other action hit ∙ without-source path n asked (lines_of rest) none)
-    ∙ onto-onto before (item asked None) (ahead_of path (n + 1) rest))
+pub taken-alone : (path : Option (List ℕ)) (n : ℕ) (bytes line rest : List ℕ) (found : Option Asked) (asked : Asked) → 0 < length bytes → line ≡ line_in (piece_of bytes) → rest ≡ after_piece bytes
+    → is_blank line ≡ false → found ≡ asked_of path line → found ≡ Some asked → takes_source asked.action ≡ false
+    → onto (item asked None ∷ []) (ahead_of path (n + 1) rest) ≡ ahead_of path n bytes
+taken-alone path n bytes line rest found asked some is after other action hit none =
+    sym (an-action path n bytes line rest found asked some is after other action hit ∙ without-source path n asked (lines_of rest) none)
 
 -- an action whose source is missing
 pub lacks-source : (path : Option (List ℕ)) (n : ℕ) (bytes line rest : List ℕ) (found : Option Asked) (asked : Asked) → 0 < length bytes → line ≡ line_in (piece_of bytes) → rest ≡ after_piece bytes
@@ -100,15 +99,30 @@ lacks-source path n bytes line rest found asked some is after other action hit t
     no_bytes (b ∷ bytes) h = absurd (omega (arith, h))
 
 -- an action and its source
-pub taken-with-source : (path : Option (List ℕ)) (n : ℕ) (bytes line rest source later : List ℕ) (found : Option Asked) (asked : Asked) (before now : List Item)
+pub taken-with-source : (path : Option (List ℕ)) (n : ℕ) (bytes line rest source later : List ℕ) (found : Option Asked) (asked : Asked)
     → 0 < length bytes → line ≡ line_in (piece_of bytes) → rest ≡ after_piece bytes → is_blank line ≡ false → found ≡ asked_of path line → found ≡ Some asked → takes_source asked.action ≡ true
-    → 0 < length rest → source ≡ line_in (piece_of rest) → later ≡ after_piece rest → now ≡ before ++ item asked (Some source) ∷ []
-    → onto now (ahead_of path (n + 1 + 1) later) ≡ onto before (ahead_of path n bytes)
-taken-with-source path n bytes line rest source later found asked before now some is after other action hit takes more second behind grown =
-    ap (λ l. onto l (ahead_of path (n + 1 + 1) later)) grown
-    ∙ sym (ap (onto before) (an-action path n bytes line rest found asked some is after other action hit ∙ behind-source path n asked (lines_of rest) takes
+    → 0 < length rest → source ≡ line_in (piece_of rest) → later ≡ after_piece rest
+    → onto (item asked (Some source) ∷ []) (ahead_of path (n + 1 + 1) later) ≡ ahead_of path n bytes
+taken-with-source path n bytes line rest source later found asked some is after other action hit takes more second behind =
+    sym (an-action path n bytes line rest found asked some is after other action hit ∙ behind-source path n asked (lines_of rest) takes
     ∙ ap (with_source path n asked) (lines-first rest source later more second behind))
-    ∙ onto-onto before (item asked (Some source)) (ahead_of path (n + 1 + 1) later))
+
+-- more items before others
+onto-onto : (front : List Item) (next : Item) (later : Result (List Item) BulkError) → onto front (onto (next ∷ []) later) ≡ onto (front ++ next ∷ []) later
+onto-onto front next (Ok others) = ap Ok (sym (append_assoc front (next ∷ []) others))
+onto-onto front next (Err e) = refl
+
+pub one-more : (items now : List Item) (i kept : Item) (lines ahead all : Result (List Item) BulkError) → kept ≡ i → now ≡ items ++ kept ∷ [] → lines ≡ onto (i ∷ []) ahead → onto items lines ≡ all → onto now ahead ≡ all
+one-more items now i kept lines ahead all same grown is held =
+    ap (λ l. onto l ahead) (grown ∙ ap (λ k. items ++ k ∷ []) same) ∙ (sym (ap (onto items) is ∙ onto-onto items i ahead) ∙ held)
+
+-- sound items with one more
+more-sound : (front : List Item) (next : Item) → AreItems front → IsItem next → AreItems (front ++ next ∷ [])
+more-sound [] next all one = (one, tt)
+more-sound (i ∷ is) next all one = (all.0, more-sound is next all.1 one)
+
+pub one-sound : (items now : List Item) (i kept : Item) → kept ≡ i → now ≡ items ++ kept ∷ [] → AreItems items → IsItem i → AreItems now
+one-sound items now i kept same grown all one = subst AreItems (sym (grown ∙ ap (λ k. items ++ k ∷ []) same)) (more-sound items i all one)
 
 -- the first piece of bytes, where a newline stands or none does
 pub piece-to : (bytes : List ℕ) (at : ℕ) → IsNewlineAt bytes at → take (at + 1) bytes ≡ piece_of bytes

@@ -1,1 +1,2 @@
 pub mod BulkLemmas
+pub mod UsualLines

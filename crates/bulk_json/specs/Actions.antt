@@ -5,7 +5,7 @@ use Rattle.serde_json.specs.Data.{Data}
 use Rattle.serde_json.specs.Find.{get, as_str}
 use Rattle.json_walk.specs.Names.{has_names}
 use Rattle.json_walk.specs.Tree.{tree_of}
-use Rattle.bulk_json.specs.Names.{is_stream_name}
+use Rattle.index_names.specs.Names.{is_stream_name}
 use Rattle.bulk_json.specs.declared.action.Action.{Action}
 use Rattle.bulk_json.specs.declared.action.Action.TheVariants.{Create, Index, Update, Delete}
 use Rattle.bulk_json.specs.declared.action.Asked.{Asked}

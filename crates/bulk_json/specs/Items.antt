@@ -4,8 +4,8 @@ use Rattle.bulk_json.specs.Lines.{is_blank, lines_of}
 use Rattle.bulk_json.specs.Actions.{takes_source, asked_of}
 use Rattle.bulk_json.specs.declared.action.Asked.{Asked}
 use Rattle.bulk_json.specs.declared.items.Item.{Item}
-use Rattle.bulk_json.specs.declared.items.BulkError.{BulkError}
-use Rattle.bulk_json.specs.declared.items.BulkError.TheVariants.{BadAction, MissingSource, Empty}
+use Rattle.bulk_json.specs.declared.errors.BulkError.{BulkError}
+use Rattle.bulk_json.specs.declared.errors.BulkError.TheVariants.{BadAction, MissingSource, Empty}
 
 -- these items, and then the others
 abbrev pub onto : List Item → Result (List Item) BulkError → Result (List Item) BulkError

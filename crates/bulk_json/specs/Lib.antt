@@ -1,4 +1,7 @@
 pub mod Actions
 pub mod Items
+pub mod Lent
 pub mod Lines
-pub mod Names
+pub mod Sound
+pub mod SoundLaws
+pub mod Usual

@@ -1,11 +1,12 @@
 //! Action lines: what is asked of the next line, and of which stream.
-ghost use Rattle.std.specs.Prelude.{◌≡◌, IfOk};
+ghost use Rattle.std.specs.Prelude.{◌≡◌, IfOk, bytes_eq};
 ghost use Rattle.std.specs.Option.{option_map};
 ghost use Rattle.serde_json.specs.View.{view};
+ghost use Rattle.bulk_json.specs.Usual.{usual_line, usual_asked};
 ghost use Rattle.bulk_json.specs.Actions.{action_name, action_in as action_in_tree, takes_source, stream_in as stream_in_tree, asked_in as asked_in_tree, asked_of};
 
-use crate::names::is_stream_name;
 use edge_face::{NoMemory, Text};
+use index_names::is_stream_name;
 use json_walk::{NotJson, has_names, read_line};
 use serde_json::Value;
 use std::alloc::Global;
@@ -101,7 +102,27 @@ fn asked_in(alloc: Global, path: Option<&str>, tree: &Value) -> Result<Option<As
     }))
 }
 
-/// The action that a line is, or none.
+// Whether a line is the one that most clients send for a new document.
+fn is_usual(line: &[u8]) -> bool
+    ensures { result ≡ bytes_eq line.now usual_line }
+{
+    line == b"{\"create\":{}}".as_slice()
+}
+
+// What that line asks: a new document of the path's stream.
+fn usual_action(alloc: Global, path: Option<&str>) -> Result<Option<Asked>, NoMemory>
+    ensures { IfOk result (λ found. found ≡ usual_asked (option_map (λ s. s.now) path.entry)) }
+{
+    match path {
+        None => Ok(None),
+        Some(stream) => Ok(Some(Asked {
+            action: Action::Create,
+            stream: Text::new(alloc, stream)?,
+        })),
+    }
+}
+
+/// The action that a line is, or none. The usual line is told by its bytes.
 pub fn read_action(
     alloc: Global,
     path: Option<&str>,
@@ -109,6 +130,10 @@ pub fn read_action(
 ) -> Result<Option<Asked>, NoMemory>
     ensures { IfOk result (λ found. found ≡ asked_of (option_map (λ s. s.now) path.entry) line.now) }
 {
+    if is_usual(line) {
+        let asked = usual_action(alloc, path)?;
+        return Ok(asked);
+    }
     match read_line(alloc, line) {
         Ok(tree) => asked_in(alloc, path, &tree),
         Err(NotJson::Bad) => Ok(None),

@@ -1,14 +1,16 @@
 //! Items of a bulk body.
-ghost use Rattle.std.specs.Prelude.{◌≡◌, ◌≢◌, ◌<◌, ◌≤◌, ◌+◌, ◌^◌, length, IfOk, IfErr, Ok, Err};
+ghost use Rattle.std.specs.Prelude.{◌≡◌, ◌≢◌, ◌<◌, [], ◌∷◌, length, IfOk, IfErr, IfSome, Ok, Err, MatchOption};
 ghost use Rattle.std.specs.Option.{option_map};
 ghost use Rattle.bulk_json.specs.Items.{bulk_of, onto, ahead_of};
+ghost use Rattle.bulk_json.specs.Lent.{ahead_in, path_in, lent, seen_item, HasRoom, IsBehind};
+ghost use Rattle.bulk_json.specs.Sound.{IsItem, AreItems, IsPath};
 
 use crate::action::{Action, read_action};
 use crate::blank::is_blank;
+use crate::errors::BulkError;
 use crate::lines::first_line;
 use edge_face::{Bytes, NoMemory, Text};
-use std::alloc::{AllocError, AllocFailed, Global};
-use thiserror::Error;
+use std::alloc::Global;
 
 /// What one action line asks for: its action, the stream, and the source as it was sent, which nobody has looked at.
 #[derive(Debug, Drop)]
@@ -19,108 +21,152 @@ pub struct Item {
     pub source: Option<Bytes>,
 }
 
-/// Why a bulk body gives no items. Lines are counted from 1.
-#[derive(Clone, Copy, Debug, PartialEq, Eq, Error)]
-pub enum BulkError {
-    /// The line stands in an action's place and is none.
-    #[error("malformed action line [{line}]")]
-    BadAction { line: u64 },
-    /// The action in this line, the last one, lacks its source.
-    #[error("missing source line after line [{line}]")]
-    MissingSource { line: u64 },
-    #[error("no items")]
-    Empty,
-    #[error("out of memory")]
-    NoMemory,
+/// An item whose source is lent by the body.
+#[derive(Drop)]
+pub struct LentItem<'a> {
+    pub action: Action,
+    pub stream: Text,
+    pub source: Option<&'a [u8]>,
 }
 
-impl From<NoMemory> for BulkError {
-    ghost use Rattle.std.specs.Prelude.{◌≡◌};
-    ghost use Rattle.bulk_json.specs.declared.items.BulkError.TheVariants.{NoMemory as OutOfMemory};
-
-    ghost from_gives = { λ _ e. e ≡ OutOfMemory };
-
-    fn from(_: NoMemory) -> BulkError {
-        BulkError::NoMemory
-    }
-}
-
-impl<T: Drop> From<AllocFailed<T>> for BulkError {
-    ghost use Rattle.std.specs.Prelude.{◌≡◌};
-    ghost use Rattle.bulk_json.specs.declared.items.BulkError.TheVariants.{NoMemory as OutOfMemory};
-
-    ghost from_gives = { λ _ e. e ≡ OutOfMemory };
-
-    fn from(_: AllocFailed<T>) -> BulkError {
-        BulkError::NoMemory
-    }
-}
-
-/// What of a body is not read yet, and the number of its first line.
+/// The items of a bulk body from a line on: what isn't read yet, and the number of its first line.
 #[derive(Clone, Copy)]
-struct Place<'a> {
+pub struct BulkLines<'a> {
+    path: Option<&'a str>,
     rest: &'a [u8],
     number: u64,
 }
 
+/// An item, where the line began one, and what lies behind it.
+#[derive(Drop)]
+pub struct Step<'a> {
+    pub item: Option<LentItem<'a>>,
+    pub ahead: BulkLines<'a>,
+}
+
+/// The next item, and what lies behind it.
+#[derive(Drop)]
+pub struct NextItem<'a> {
+    pub item: LentItem<'a>,
+    pub ahead: BulkLines<'a>,
+}
+
+impl<'a> BulkLines<'a> {
+    /// All items of a body under the path of a stream, or of none.
+    pub fn new(stream: Option<&'a str>, body: &'a [u8]) -> BulkLines<'a>
+        ensures all { ahead_in result ≡ ahead_of (option_map (λ s. s.now) stream.entry) 1 body.now }
+        ensures path { path_in result ≡ option_map (λ s. s.now) stream.entry }
+        ensures few { HasRoom result }
+    {
+        BulkLines {
+            path: stream,
+            rest: body,
+            number: 1,
+        }
+    }
+
+    /// The next item, and the items behind it; nothing where no item is ahead.
+    pub fn next(self, alloc: Global) -> Result<Option<NextItem<'a>>, BulkError>
+        requires few { HasRoom self }
+        ensures item { IfOk result (λ found. MatchOption found (ahead_in self.entry ≡ Ok []) (λ n. ahead_in self.entry ≡ onto (seen_item n.item ∷ []) (ahead_in n.ahead))) }
+        ensures sound { IsPath (path_in self.entry) → IfOk result (λ found. IfSome found (λ n. IsItem (seen_item n.item))) }
+        ensures onward { IfOk result (λ found. IfSome found (λ n. IsBehind n.ahead self.entry)) }
+        ensures refused { IfErr result (λ e. e ≢ BulkError.NoMemory → ahead_in self.entry ≡ Err e) }
+    {
+        let mut lines = self;
+        while !lines.rest.is_empty() {
+            let Step { item, ahead } = read_step(alloc, lines)?;
+            if let Some(item) = item {
+                return Ok(Some(NextItem { item, ahead }));
+            }
+            lines = ahead;
+        }
+        Ok(None)
+    }
+}
+
 /// Reads the item that begins with the next line, or passes the line where it is blank.
-fn step<'a>(
-    alloc: Global,
-    path: Option<&str>,
-    place: Place<'a>,
-    items: &mut Vec<Item>,
-) -> Result<Place<'a>, BulkError>
-    requires some { 0 < length place.rest.now }
-    requires few { place.number + length place.rest.now < 2 ^ 64 }
-    ensures onward { IfOk result (λ after. onto items.new.items (ahead_of (option_map (λ s. s.now) path.entry) after.number after.rest.now) ≡ onto items.old.items (ahead_of (option_map (λ s. s.now) path.entry) place.entry.number place.entry.rest.now)) }
-    ensures refused { IfErr result (λ e. e ≢ BulkError.NoMemory → ahead_of (option_map (λ s. s.now) path.entry) place.entry.number place.entry.rest.now ≡ Err e) }
-    ensures shorter { IfOk result (λ after. length after.rest.now < length place.entry.rest.now) }
-    ensures few { IfOk result (λ after. after.number + length after.rest.now ≤ place.entry.number + length place.entry.rest.now) }
+fn read_step<'a>(alloc: Global, lines: BulkLines<'a>) -> Result<Step<'a>, BulkError>
+    requires some { 0 < length lines.rest.now }
+    requires few { HasRoom lines }
+    ensures items { IfOk result (λ s. onto (lent s.item) (ahead_in s.ahead) ≡ ahead_in lines.entry) }
+    ensures sound { IsPath (path_in lines.entry) → IfOk result (λ s. AreItems (lent s.item)) }
+    ensures onward { IfOk result (λ s. IsBehind s.ahead lines.entry) }
+    ensures refused { IfErr result (λ e. e ≢ BulkError.NoMemory → ahead_in lines.entry ≡ Err e) }
 {
-    let first = first_line(place.rest);
-    let next = Place {
+    let first = first_line(lines.rest);
+    let next = BulkLines {
+        path: lines.path,
         rest: first.rest,
-        number: place.number + 1,
+        number: lines.number + 1,
     };
     if is_blank(first.line) {
-        return Ok(next);
+        return Ok(Step {
+            item: None,
+            ahead: next,
+        });
     }
-    let Some(asked) = read_action(alloc, path, first.line)? else {
-        return Err(BulkError::BadAction { line: place.number });
+    let Some(asked) = read_action(alloc, lines.path, first.line)? else {
+        return Err(BulkError::BadAction { line: lines.number });
     };
     if !asked.action.takes_source() {
-        items.push(Item {
+        let item = LentItem {
             action: asked.action,
             stream: asked.stream,
             source: None,
-        })?;
-        return Ok(next);
+        };
+        return Ok(Step {
+            item: Some(item),
+            ahead: next,
+        });
     }
     if next.rest.is_empty() {
-        return Err(BulkError::MissingSource { line: place.number });
+        return Err(BulkError::MissingSource { line: lines.number });
     }
     let second = first_line(next.rest);
-    items.push(Item {
+    let item = LentItem {
         action: asked.action,
         stream: asked.stream,
-        source: Some(Bytes::new(alloc, second.line)?),
-    })?;
-    Ok(Place {
+        source: Some(second.line),
+    };
+    let ahead = BulkLines {
+        path: lines.path,
         rest: second.rest,
         number: next.number + 1,
+    };
+    Ok(Step {
+        item: Some(item),
+        ahead,
     })
 }
 
-/// Reads all items from a place on.
-fn read_items(alloc: Global, path: Option<&str>, start: Place<'_>) -> Result<Vec<Item>, BulkError>
-    requires { start.number ≡ 1 }
-    ensures items { IfOk result (λ items. ahead_of (option_map (λ s. s.now) path.entry) 1 start.entry.rest.now ≡ Ok items.items) }
-    ensures refused { IfErr result (λ e. e ≢ BulkError.NoMemory → ahead_of (option_map (λ s. s.now) path.entry) 1 start.entry.rest.now ≡ Err e) }
+/// The item with a copy of its source.
+fn kept(alloc: Global, item: LentItem<'_>) -> Result<Item, NoMemory>
+    ensures { IfOk result (λ kept. kept ≡ seen_item item.entry) }
+{
+    let source = match item.source {
+        None => None,
+        Some(bytes) => Some(Bytes::new(alloc, bytes)?),
+    };
+    Ok(Item {
+        action: item.action,
+        stream: item.stream,
+        source,
+    })
+}
+
+/// Reads all items that are ahead.
+fn read_items(alloc: Global, start: BulkLines<'_>) -> Result<Vec<Item>, BulkError>
+    requires few { HasRoom start }
+    ensures items { IfOk result (λ items. ahead_in start.entry ≡ Ok items.items) }
+    ensures sound { IsPath (path_in start.entry) → IfOk result (λ items. AreItems items.items) }
+    ensures refused { IfErr result (λ e. e ≢ BulkError.NoMemory → ahead_in start.entry ≡ Err e) }
 {
     let mut items = Vec::new(alloc);
-    let mut place = start;
-    while !place.rest.is_empty() {
-        place = step(alloc, path, place, &mut items)?;
+    let mut lines = start;
+    while let Some(NextItem { item, ahead }) = lines.next(alloc)? {
+        items.push(kept(alloc, item)?)?;
+        lines = ahead;
     }
     Ok(items)
 }
@@ -143,13 +189,10 @@ fn name_of(stream: Option<&Text>) -> Option<&str>
 #[tactic(auto, unfolding(crate::specs::Items::bulk_of))]
 pub fn read_bulk(alloc: Global, stream: Option<&Text>, body: &[u8]) -> Result<Vec<Item>, BulkError>
     ensures items { IfOk result (λ items. bulk_of (option_map (λ s. s.now) stream.entry) body.now ≡ Ok items.items) }
+    ensures sound { IsPath (option_map (λ s. s.now) stream.entry) → IfOk result (λ items. AreItems items.items) }
     ensures refused { IfErr result (λ e. e ≢ BulkError.NoMemory → bulk_of (option_map (λ s. s.now) stream.entry) body.now ≡ Err e) }
 {
-    let start = Place {
-        rest: body,
-        number: 1,
-    };
-    let items = read_items(alloc, name_of(stream), start)?;
+    let items = read_items(alloc, BulkLines::new(name_of(stream), body))?;
     if items.is_empty() {
         return Err(BulkError::Empty);
     }

@@ -1,5 +1,3 @@
 pub mod Ascending
-pub mod Behind
-pub mod Gather
 pub mod Named
-pub mod Trees
+pub mod Walked

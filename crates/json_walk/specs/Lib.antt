@@ -1,8 +1,14 @@
+pub mod CountLaws
+pub mod Counted
 pub mod Leaves
 pub mod Lent
 pub mod Listed
 pub mod Names
 pub mod Path
+pub mod PathLaws
 pub mod Paths
-pub mod Placed
+pub mod Places
+pub mod Shapes
 pub mod Tree
+pub mod TreeLaws
+pub mod WalkLaws

@@ -28,7 +28,7 @@ impl<'a> Leaf<'a> {
 pub type Found<'a> = SmallVec<Leaf<'a>, 4>;
 
 // What is left of a path behind a name: nothing, or what follows a dot.
-#[tactic(auto, using(crate::proofs::Behind::behind_short))]
+#[tactic(auto, using(crate::specs::PathLaws::behind_short))]
 fn behind<'p>(name: &[u8], path: &'p [u8]) -> Option<Option<&'p [u8]>>
     ensures { option_map rest_path result ≡ behind_name name.now path.now }
 {

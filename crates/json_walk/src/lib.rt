@@ -2,15 +2,17 @@
 #![tactic(auto)]
 
 mod at;
+mod laws;
 mod names;
-mod path_list;
+mod place;
 mod read;
-#[cfg(test)]
-mod tests;
+mod shapes;
 mod walk;
 
 pub use at::{Found, Leaf, leaves_at};
+pub use laws::leaves_are_few;
 pub use names::has_names;
-pub use path_list::paths;
-pub use read::{NotJson, read_line, whole};
-pub use walk::{Place, Placed, leaves};
+pub use place::Place;
+pub use read::{NotJson, read_line};
+pub use shapes::{has_no_other, is_object, only_member, texts, whole, whole_between};
+pub use walk::paths;

@@ -1,6 +1,5 @@
-ghost use Rattle.std.specs.Prelude.{◌≡◌, ◌≤◌, Some, None, IfOk, Err, option_and_then};
+ghost use Rattle.std.specs.Prelude.{◌≡◌, ◌≤◌, Some, None, IfOk, Err};
 ghost use Rattle.serde_json.specs.Data.{depth as nesting};
-ghost use Rattle.serde_json.specs.Find.{as_i64, as_number};
 ghost use Rattle.serde_json.specs.Read.{max_depth};
 ghost use Rattle.serde_json.specs.View.{view};
 ghost use Rattle.json_walk.specs.Tree.{tree_of};
@@ -21,7 +20,7 @@ pub enum NotJson {
 
 /// Reads the JSON value that `bytes` are (RFC 8259), as `serde_json` reads it: the last of several
 /// members of one name stays, and at most 127 levels nest.
-#[tactic(auto, using(crate::proofs::Trees::tree_at_utf8, crate::proofs::Trees::tree_at_none))]
+#[tactic(auto, using(crate::specs::TreeLaws::tree_at_utf8, crate::specs::TreeLaws::tree_at_none))]
 pub fn read_line(alloc: Global, bytes: &[u8]) -> Result<Value, NotJson>
     ensures ok { IfOk result (λ v. tree_of bytes.now ≡ Some (view v)) }
     ensures nests { IfOk result (λ v. nesting (view v) ≤ max_depth) }
@@ -37,12 +36,4 @@ pub fn read_line(alloc: Global, bytes: &[u8]) -> Result<Value, NotJson>
             }
         }
     }
-}
-
-/// The whole number of signed 64 bits that the value is, as `serde_json` tells whole numbers: `1.0`
-/// and `-0` are none.
-pub fn whole(v: &Value) -> Option<i64>
-    ensures { result ≡ option_and_then as_i64 (as_number (view v.now)) }
-{
-    v.as_i64()
 }

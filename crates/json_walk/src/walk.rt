@@ -1,94 +1,19 @@
-ghost use Rattle.std.specs.Prelude.{◌≡◌, ◌∷◌, ◌++◌, IfOk, OnOk, bytes_eq};
+//! Walks over all leaves of a tree.
+ghost use Rattle.std.specs.Prelude.{◌≡◌, [], OnOk, IfOk, bytes_eq};
+ghost use Rattle.std.specs.Cmp.Lexicographic.{slice_cmp};
 ghost use Rattle.std.specs.List.{list_any};
+ghost use Rattle.std.specs.List.Sorted.{IsStrictlySortedBy};
+ghost use Rattle.std.specs.Ordering.{nat_cmp};
 ghost use Rattle.serde_json.specs.View.{view, items_view, members_view};
-ghost use Rattle.json_walk.specs.Leaves.{AreLeaves};
 ghost use Rattle.json_walk.specs.Listed.{listed, listed_items, listed_members};
-ghost use Rattle.json_walk.specs.Listed.{placed};
-ghost use Rattle.json_walk.specs.Path.{below, is_stop as stops_here};
-ghost use Rattle.json_walk.specs.Placed.{entries, path_of, place_of};
+ghost use Rattle.json_walk.specs.Path.{is_stop as stops_here};
+ghost use Rattle.json_walk.specs.Paths.{AreLeafPaths, with_path, with_paths};
 
+use crate::place::Place;
 use edge_face::{NoMemory, Text};
 use serde_json::{Map, Value};
 use std::alloc::Global;
-
-/// Where a value stands in a document: the names that lead to it, joined by dots.
-#[derive(Drop)]
-pub struct Place<'a> {
-    // A path of one name is that name, where the document has it.
-    name: &'a str,
-    joined: Option<Text>,
-}
-
-/// A leaf of a document, and its place.
-#[derive(Drop)]
-pub struct Placed<'a> {
-    pub place: Place<'a>,
-    pub value: &'a Value,
-}
-
-impl<'a> Place<'a> {
-    /// The path as a text.
-    pub fn path(&self) -> &str
-        ensures { result.now ≡ path_of self.now }
-    {
-        match &self.joined {
-            Some(path) => path.as_str(),
-            None => self.name,
-        }
-    }
-
-    fn copy(&self, alloc: Global) -> Result<Place<'a>, NoMemory>
-        ensures { IfOk result (λ p. path_of p ≡ path_of self.now) }
-    {
-        match &self.joined {
-            Some(path) => Ok(Place {
-                name: self.name,
-                joined: Some(path.copy(alloc)?),
-            }),
-            None => Ok(Place {
-                name: self.name,
-                joined: None,
-            }),
-        }
-    }
-    // The place of a member of what stands here.
-    fn below_place(
-        alloc: Global,
-        here: Option<&Place<'a>>,
-        name: &'a str,
-    ) -> Result<Place<'a>, NoMemory>
-        ensures { IfOk result (λ p. path_of p ≡ below (place_of here.entry) name.now) }
-    {
-        match here {
-            None => Ok(Place { name, joined: None }),
-            Some(place) => {
-                let joined = joined(alloc, place.path(), name)?;
-                Ok(Place {
-                    name,
-                    joined: Some(joined),
-                })
-            }
-        }
-    }
-}
-
-fn joined(alloc: Global, path: &str, name: &str) -> Result<Text, NoMemory>
-    ensures { IfOk result (λ t. t ≡ path.now ++ 46 ∷ name.now) }
-{
-    let mut text = String::from_str(alloc, path)?;
-    text.push_str(".")?;
-    text.push_str(name)?;
-    Ok(Text::from_string(text))
-}
-
-fn is_stop(stops: &[Text], here: Option<&Place<'_>>) -> bool
-    ensures { result ≡ stops_here stops.now (place_of here.entry) }
-{
-    match here {
-        None => false,
-        Some(place) => is_among(place.path().as_bytes(), stops),
-    }
-}
+use std::collections::BTreeSet;
 
 pub(crate) fn is_among(path: &[u8], stops: &[Text]) -> bool
     ensures { result ≡ list_any (λ s. bytes_eq s path.now) stops.now }
@@ -96,100 +21,112 @@ pub(crate) fn is_among(path: &[u8], stops: &[Text]) -> bool
     stops.iter().any(|stop| stop.as_bytes() == path)
 }
 
-fn put<'a>(
-    alloc: Global,
-    value: &'a Value,
-    here: Option<&Place<'a>>,
-    found: &mut Vec<Placed<'a>>,
-) -> Result<(), NoMemory>
-    ensures { OnOk result (entries found.new.items
-        ≡ entries found.old.items ++ placed (place_of here.entry) (view value.now)) }
+fn is_stop(stops: &[Text], place: &Place) -> bool
+    ensures { result ≡ stops_here stops.now place.now }
 {
-    let Some(place) = here else {
-        return Ok(());
-    };
-    let place = place.copy(alloc)?;
-    match found.push(Placed { place, value }) {
-        Ok(()) => Ok(()),
-        Err(_) => Err(NoMemory),
+    match place.path() {
+        None => false,
+        Some(path) => is_among(path.as_bytes(), stops),
     }
 }
 
+// Puts the path of a leaf to the paths, where it has one.
+fn note(alloc: Global, place: &Place, paths: &mut BTreeSet<Text>) -> Result<(), NoMemory>
+    ensures { OnOk result (paths.new.keys ≡ with_path paths.old.keys place.now) }
+{
+    let Some(path) = place.path() else {
+        return Ok(());
+    };
+    let path = Text::new(alloc, path)?;
+    let _ = paths.insert(path)?;
+    Ok(())
+}
+
 #[cycle(walk)]
-fn walk<'a>(
+fn walk(
     alloc: Global,
-    value: &'a Value,
-    here: Option<&Place<'a>>,
+    value: &Value,
     stops: &[Text],
-    found: &mut Vec<Placed<'a>>,
+    place: &mut Place,
+    paths: &mut BTreeSet<Text>,
 ) -> Result<(), NoMemory>
-    ensures { OnOk result (entries found.new.items
-        ≡ entries found.old.items ++ listed stops.now (place_of here.entry) (view value.now)) }
+    ensures place { OnOk result (place.new ≡ place.old) }
+    ensures paths { OnOk result (paths.new.keys
+        ≡ with_paths paths.old.keys (listed stops.now place.old (view value.now))) }
 {
     match value {
         Value::Null => Ok(()),
-        Value::Bool(_) | Value::Number(_) | Value::String(_) => put(alloc, value, here, found),
-        Value::Array(items) => walk_items(alloc, items, here, stops, found),
+        Value::Bool(_) | Value::Number(_) | Value::String(_) => note(alloc, place, paths),
+        Value::Array(items) => walk_items(alloc, items, stops, place, paths),
         Value::Object(members) => {
-            if is_stop(stops, here) {
+            if is_stop(stops, place) {
                 if members.is_empty() {
                     return Ok(());
                 }
-                return put(alloc, value, here, found);
+                return note(alloc, place, paths);
             }
-            walk_members(alloc, members, here, stops, found)
+            walk_members(alloc, members, stops, place, paths)
         }
     }
 }
 
 #[cycle(walk)]
-fn walk_items<'a>(
+fn walk_items(
     alloc: Global,
-    items: &'a Vec<Value>,
-    here: Option<&Place<'a>>,
+    items: &Vec<Value>,
     stops: &[Text],
-    found: &mut Vec<Placed<'a>>,
+    place: &mut Place,
+    paths: &mut BTreeSet<Text>,
 ) -> Result<(), NoMemory>
-    ensures { OnOk result (entries found.new.items
-        ≡ entries found.old.items ++ listed_items stops.now (place_of here.entry) (items_view items.now.items)) }
+    ensures place { OnOk result (place.new ≡ place.old) }
+    ensures paths { OnOk result (paths.new.keys
+        ≡ with_paths paths.old.keys (listed_items stops.now place.old (items_view items.now.items))) }
 {
     for item in items {
-        walk(alloc, item, here, stops, found)?;
+        walk(alloc, item, stops, place, paths)?;
     }
     Ok(())
 }
 
 #[cycle(walk)]
-fn walk_members<'a>(
+fn walk_members(
     alloc: Global,
-    members: &'a Map<String, Value>,
-    here: Option<&Place<'a>>,
+    members: &Map<String, Value>,
     stops: &[Text],
-    found: &mut Vec<Placed<'a>>,
+    place: &mut Place,
+    paths: &mut BTreeSet<Text>,
 ) -> Result<(), NoMemory>
-    ensures { OnOk result (entries found.new.items
-        ≡ entries found.old.items ++ listed_members stops.now (place_of here.entry) (members_view members.now.entries)) }
+    ensures place { OnOk result (place.new ≡ place.old) }
+    ensures paths { OnOk result (paths.new.keys
+        ≡ with_paths paths.old.keys (listed_members stops.now place.old (members_view members.now.entries))) }
 {
     for (name, member) in members.iter() {
-        let place = Place::below_place(alloc, here, name.as_str())?;
-        walk(alloc, member, Some(&place), stops, found)?;
+        place.enter(name.as_str())?;
+        walk(alloc, member, stops, place, paths)?;
+        place.leave(name.as_str());
     }
     Ok(())
 }
 
-// How many leaves find room at once.
-const USUAL_LEAVES: usize = 8;
-
-/// All leaves of a document, each with its place: by member names in byte order, and the elements of an
-/// array in their order.
-pub fn leaves<'a>(
-    alloc: Global,
-    doc: &'a Value,
-    stops: &[Text],
-) -> Result<Vec<Placed<'a>>, NoMemory>
-    ensures { IfOk result (λ found. AreLeaves stops.now (view doc.now) (entries found.items)) }
+fn in_order(alloc: Global, sorted: BTreeSet<Text>) -> Result<Vec<Text>, NoMemory>
+    ensures keys { IfOk result (λ ps. ps.items ≡ sorted.keys) }
+    ensures ascending { IfOk result (λ ps. IsStrictlySortedBy (slice_cmp nat_cmp) ps.items) }
 {
-    let mut found = Vec::with_capacity(alloc, USUAL_LEAVES)?;
-    walk(alloc, doc, None, stops, &mut found)?;
-    Ok(found)
+    let mut paths = Vec::with_capacity(alloc, sorted.len())?;
+    for path in sorted {
+        paths.push(path)?;
+    }
+    Ok(paths)
+}
+
+/// The paths of a document's leaves, ascending by bytes, and each once. Each is a text of its own, so for a document from
+/// outside they may take more memory than the document: a layer that only looks at places walks with a [`Place`] instead.
+pub fn paths(alloc: Global, doc: &Value, stops: &[Text]) -> Result<Vec<Text>, NoMemory>
+    ensures { IfOk result (λ ps. AreLeafPaths stops.now (view doc.now) ps.items) }
+{
+    let mut sorted = BTreeSet::new(alloc);
+    let mut place = Place::root(alloc)?;
+    walk(alloc, doc, stops, &mut place, &mut sorted)?;
+    let paths = in_order(alloc, sorted)?;
+    Ok(paths)
 }

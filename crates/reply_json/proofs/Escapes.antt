@@ -1,5 +1,5 @@
 -- What stands for a byte in a JSON text, and a run of bytes that stand as they are.
-use Rattle.std.proofs.Common.{◌≡◌, ℕ, ◌+◌, ◌<◌, ◌≤◌, ◌/◌, ◌%◌, List, [], ◌∷◌, ◌++◌, length, take, drop, get_or, sym, ap, ◌∙◌, append_assoc, arith, nat_lt, cond}
+use Rattle.std.proofs.Common.{◌≡◌, ◌≢◌, ℕ, ◌+◌, ◌<◌, ◌≤◌, ◌/◌, ◌%◌, List, [], ◌∷◌, ◌++◌, length, take, drop, get_or, sym, ap, ◌∙◌, append_assoc, arith, nat_lt, cond}
 use Rattle.std.proofs.lemmas.Bool.Decides.{nat_tests}
 use Rattle.std.proofs.lemmas.List.{drop_more, take_more}
 use Rattle.std.specs.Char.{digit_char}
@@ -28,6 +28,12 @@ by_code b none low = no_letter (escape_letter b) _ _ none ∙ below b _ _ low
 pub as_it_is : (b : ℕ) → escape_letter b ≡ 0 → 32 ≤ b → escape_byte b ≡ b ∷ []
 unfolding escape_byte
 as_it_is b none high = no_letter (escape_letter b) _ _ none ∙ above b _ _ high
+
+no_short : (b : ℕ) → 32 ≤ b → b ≢ 34 → b ≢ 92 → escape_letter b ≡ 0
+no_short b high quote slash = grind (arith, nat_tests)
+
+pub plain_byte : (b : ℕ) → 32 ≤ b → b ≢ 34 → b ≢ 92 → escape_byte b ≡ b ∷ []
+plain_byte b high quote slash = as_it_is b (no_short b high quote slash) high
 
 -- one more byte that stands as it is
 pub one_plain : (s : List ℕ) (at : ℕ) → at < length s → escape_byte (get_or s at 0) ≡ get_or s at 0 ∷ [] → escape s ≡ take at s ++ escape (drop at s)

@@ -16,6 +16,13 @@ impl Out {
         Ok(Out::Word(Text::new(alloc, text)?))
     }
 
+    /// A text that stands in the program. It takes no memory.
+    pub fn fixed(text: &'static str) -> Out
+        ensures { result ≡ word text.now }
+    {
+        Out::Word(Text::fixed(text))
+    }
+
     /// A list of these elements.
     pub fn list(elements: Vec<Out>) -> Out
         ensures { result ≡ list elements.items }
@@ -25,6 +32,16 @@ impl Out {
 }
 
 impl Member {
+    /// A member whose name stands in the program. The name takes no memory.
+    pub fn fixed(name: &'static str, value: Out) -> Member
+        ensures { result ≡ member name.now value }
+    {
+        Member {
+            name: Text::fixed(name),
+            value,
+        }
+    }
+
     pub fn new(alloc: Global, name: &str, value: Out) -> Result<Member, NoMemory>
         ensures { IfOk result (λ m. m ≡ member name.now value) }
     {
@@ -63,6 +80,15 @@ impl Members {
         }
     }
 
+    /// No members yet, with room for so many.
+    pub fn with_capacity(alloc: Global, number: usize) -> Result<Members, NoMemory>
+        ensures { IfOk result (λ m. m ≡ []) }
+    {
+        Ok(Members {
+            inner: Vec::with_capacity(alloc, number)?,
+        })
+    }
+
     /// These members, in their order.
     pub fn of(members: Vec<Member>) -> Members
         ensures { result ≡ members.items }
@@ -70,12 +96,12 @@ impl Members {
         Members { inner: members }
     }
 
-    /// These members, and one more at the end.
-    pub fn with(self, name: &str, value: Out) -> Result<Members, NoMemory>
+    /// These members, and one more at the end, whose name stands in the program.
+    pub fn with(self, name: &'static str, value: Out) -> Result<Members, NoMemory>
         ensures { IfOk result (λ m. m ≡ self ++ member name.now value ∷ []) }
     {
         let Members { mut inner } = self;
-        inner.push(Member::new(*inner.allocator(), name, value)?)?;
+        inner.push(Member::fixed(name, value))?;
         Ok(Members { inner })
     }
 
@@ -89,13 +115,18 @@ impl Members {
 }
 
 /// The reply to a refused request: `{"error":{"type":kind,"reason":reason},"status":status}`.
-pub fn error_reply(alloc: Global, status: u16, kind: &str, reason: &str) -> Result<Out, NoMemory>
+pub fn error_reply(
+    alloc: Global,
+    status: u16,
+    kind: &'static str,
+    reason: &str,
+) -> Result<Out, NoMemory>
     ensures { IfOk result (λ out. out ≡ error_tree status kind.now reason.now) }
 {
-    let cause = Members::new(alloc)
-        .with("type", Out::word(alloc, kind)?)?
+    let cause = Members::with_capacity(alloc, 2)?
+        .with("type", Out::fixed(kind))?
         .with("reason", Out::word(alloc, reason)?)?;
-    let reply = Members::new(alloc)
+    let reply = Members::with_capacity(alloc, 2)?
         .with("error", cause.object())?
         .with("status", Out::Num(i128::from(status)))?;
     Ok(reply.object())

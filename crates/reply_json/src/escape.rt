@@ -46,14 +46,11 @@ fn plain_len(text: &[u8]) -> usize
     at
 }
 
-#[tactic(auto, using(crate::proofs::Escapes::as_it_is))]
+#[tactic(auto, using(crate::proofs::Escapes::plain_byte))]
 fn is_plain(byte: u8) -> bool
     ensures { IsTrue result → escape_byte byte ≡ byte ∷ [] }
 {
-    if byte < 32 {
-        return false;
-    }
-    letter(byte) == 0
+    byte >= 32 && byte != b'"' && byte != b'\\'
 }
 
 #[tactic(auto, using(crate::proofs::Escapes::as_it_is, crate::proofs::Escapes::by_letter, crate::proofs::Escapes::by_code))]

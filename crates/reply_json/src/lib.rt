@@ -2,11 +2,10 @@
 #![tactic(auto)]
 
 mod build;
+mod copying;
 mod escape;
 mod out;
 mod sheet;
-#[cfg(test)]
-mod tests;
 mod write;
 
 pub use build::{Members, error_reply};

@@ -1,18 +1,11 @@
 -- What bodies are.
-use Rattle.std.specs.Prelude.{ℕ, Bool, true, false, ◌||◌, nat_eq, List, [], length, if◌then◌else◌, Option, None, Some, option_and_then}
+use Rattle.std.specs.Prelude.{ℕ, Bool, false, ◌||◌, nat_eq, List, [], length, if◌then◌else◌, Option, None, Some, option_and_then}
 use Rattle.std.specs.Option.{option_map}
-use Rattle.serde_json.specs.Data.{Data, null, boolean, number, string, array, object}
+use Rattle.serde_json.specs.Data.{Data}
 use Rattle.json_walk.specs.Names.{has_names}
+use Rattle.json_walk.specs.Shapes.{is_object}
 use Rattle.json_walk.specs.Tree.{tree_of}
 use Rattle.bulk_json.specs.Lines.{is_blank}
-
-abbrev pub is_object : Data → Bool
-is_object null = false
-is_object (boolean b) = false
-is_object (number n) = false
-is_object (string s) = false
-is_object (array ds) = false
-is_object (object ms) = true
 
 abbrev pub tree_if_object : Data → Option Data
 tree_if_object tree = if is_object tree then Some tree else None

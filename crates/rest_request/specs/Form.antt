@@ -2,11 +2,8 @@
 use Rattle.std.specs.Prelude.{ℕ, ◌||◌, List, codes, bytes_eq, if◌then◌else◌, Option, None, Some}
 use Rattle.rest_request.specs.declared.path.Shape.{Shape}
 use Rattle.rest_request.specs.declared.path.Shape.TheVariants as shape
-use Rattle.rest_request.specs.declared.form.Bare.{Bare}
 use Rattle.rest_request.specs.declared.form.Bare.TheVariants as bare
-use Rattle.rest_request.specs.declared.form.Full.{Full}
 use Rattle.rest_request.specs.declared.form.Full.TheVariants as full
-use Rattle.rest_request.specs.declared.form.Optional.{Optional}
 use Rattle.rest_request.specs.declared.form.Optional.TheVariants as optional
 use Rattle.rest_request.specs.declared.form.Form.{Form}
 use Rattle.rest_request.specs.declared.form.Form.TheVariants as form

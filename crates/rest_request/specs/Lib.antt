@@ -1,3 +1,5 @@
+pub mod Asked
+pub mod AskedLaws
 pub mod Body
 pub mod Form
 pub mod Message

@@ -3,7 +3,7 @@ use Rattle.std.specs.Prelude.{ℕ, ◌==◌, Bool, not, ◌||◌, ◌&&◌, nat_
 use Rattle.std.specs.Option.{option_map}
 use Rattle.std.specs.List.{list_all}
 use Rattle.std.specs.Char.{is_ascii_alphanumeric}
-use Rattle.bulk_json.specs.Names.{is_stream_name, is_target_name, is_index_name}
+use Rattle.index_names.specs.Names.{is_stream_name, is_target_name, is_index_name}
 use Rattle.rest_request.specs.declared.path.Shape.{Shape}
 use Rattle.rest_request.specs.declared.path.Shape.TheVariants.{Template, Stream, Modify, Lifecycle, Bulk, StreamBulk, Rollover, Block, Downsample, Index, RunLifecycle, Tasks, Search, Count, Document, Flush}
 

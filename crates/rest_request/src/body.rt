@@ -2,22 +2,13 @@
 ghost use Rattle.std.specs.Prelude.{◌≡◌, IfOk};
 ghost use Rattle.std.specs.Option.{option_map};
 ghost use Rattle.serde_json.specs.View.{view};
-ghost use Rattle.rest_request.specs.Body.{tree_if_object, object_of, optional_of, is_nothing as is_no_body, is_object as is_object_tree};
+ghost use Rattle.rest_request.specs.Body.{tree_if_object, object_of, optional_of, is_nothing as is_no_body};
 
 use bulk_json::is_blank;
 use edge_face::NoMemory;
-use json_walk::{NotJson, has_names, read_line};
+use json_walk::{NotJson, has_names, is_object, read_line};
 use serde_json::Value;
 use std::alloc::Global;
-
-fn is_object(tree: &Value) -> bool
-    ensures { result ≡ is_object_tree (view tree.now) }
-{
-    match tree {
-        Value::Object(_) => true,
-        _ => false,
-    }
-}
 
 /// The object that a body is, or none.
 #[tactic(auto, unfolding(crate::specs::Body::object_of))]

@@ -6,7 +6,5 @@ mod form;
 mod path;
 mod query;
 mod request;
-#[cfg(test)]
-mod tests;
 
-pub use request::{Request, RequestError, read_request};
+pub use request::{Request, RequestError, read_body_request, read_request};

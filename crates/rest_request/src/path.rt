@@ -5,7 +5,7 @@ ghost use Rattle.std.specs.List.{list_all};
 ghost use Rattle.rest_request.specs.Path as spec;
 ghost use Rattle.rest_request.specs.Seen.{seen_place, seen_cut};
 
-use bulk_json::{is_index_name, is_stream_name, is_target_name};
+use index_names::{is_index_name, is_stream_name, is_target_name};
 
 /// The most bytes that a document's id has.
 const ID_LIMIT: usize = 6_000;

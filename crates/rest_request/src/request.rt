@@ -1,9 +1,11 @@
 //! Requests.
-ghost use Rattle.std.specs.Prelude.{◌≡◌, ◌≢◌, IfOk, IfErr, Ok, Err};
+ghost use Rattle.std.specs.Prelude.{◌≡◌, ◌≢◌, ◌≤◌, length, IfOk, IfErr, Ok, Err};
 ghost use Rattle.std.specs.Option.{option_map};
 ghost use Rattle.serde_json.specs.View.{view};
 ghost use Rattle.rest_request.specs.Path.{cut, split_target as split_target_at};
 ghost use Rattle.rest_request.specs.Seen.{seen_cut};
+ghost use Rattle.edge_face.specs.Limits.{body_limit};
+ghost use Rattle.rest_request.specs.Asked.{IsAsked};
 ghost use Rattle.rest_request.specs.Message.{seen, bare_of, full_of, optional_of_form, message_of, request_of};
 
 use crate::body::{is_nothing, object};
@@ -12,7 +14,7 @@ use crate::path::place_of;
 use crate::query::are_known;
 use edge_face::{Bytes, NoMemory, Text};
 use serde_json::Value;
-use std::alloc::Global;
+use std::alloc::{AllocError, Global};
 use thiserror::Error;
 
 /// A request, with the names in its path and its body where it has one.
@@ -87,6 +89,17 @@ pub enum RequestError {
     BadBody,
     #[error("out of memory")]
     NoMemory,
+}
+
+impl From<AllocError> for RequestError {
+    ghost use Rattle.std.specs.Prelude.{◌≡◌};
+    ghost use Rattle.rest_request.specs.declared.request.RequestError.TheVariants.{NoMemory as OutOfMemory};
+
+    ghost from_gives = { λ _ e. e ≡ OutOfMemory };
+
+    fn from(_: AllocError) -> RequestError {
+        RequestError::NoMemory
+    }
 }
 
 impl From<NoMemory> for RequestError {
@@ -181,19 +194,19 @@ fn request_for(
     form: Form,
     first: &str,
     second: &str,
-    body: &[u8],
+    body: Vec<u8>,
 ) -> Result<Option<Request>, NoMemory>
-    ensures { IfOk result (λ found. option_map seen found ≡ message_of form first.now second.now body.now) }
+    ensures { IfOk result (λ found. option_map seen found ≡ message_of form first.now second.now body.items) }
 {
     match form {
         Form::Bare(form) => {
-            if !is_nothing(alloc, body)? {
+            if !is_nothing(alloc, body.as_slice())? {
                 return Ok(None);
             }
             Ok(Some(bare_request(alloc, form, first, second)?))
         }
         Form::Full(form) => {
-            let Some(tree) = object(alloc, body)? else {
+            let Some(tree) = object(alloc, body.as_slice())? else {
                 return Ok(None);
             };
             Ok(Some(full_request(alloc, form, first, second, tree)?))
@@ -202,37 +215,32 @@ fn request_for(
             if body.is_empty() {
                 return Ok(Some(optional_request(alloc, form, first, None)?));
             }
-            let Some(tree) = object(alloc, body)? else {
+            let Some(tree) = object(alloc, body.as_slice())? else {
                 return Ok(None);
             };
             Ok(Some(optional_request(alloc, form, first, Some(tree))?))
         }
         Form::Bulk => Ok(Some(Request::Bulk {
             stream: None,
-            body: Bytes::new(alloc, body)?,
+            body: Bytes::from_vec(body),
         })),
         Form::StreamBulk => Ok(Some(Request::Bulk {
             stream: Some(Text::new(alloc, first)?),
-            body: Bytes::new(alloc, body)?,
+            body: Bytes::from_vec(body),
         })),
     }
 }
 
-/// The request that a method, a target and a body are.
-///
-/// A path of no known shape is refused first, then a method that its shape doesn't have, then a parameter other than
-/// `refresh` and `pretty`, then a body of another kind than the request takes: none (blank and `{}` count as none), a JSON
-/// object, an object or nothing at all, or the lines of a bulk request, which are handed on unread. The methods and the
-/// segments of the path are taken as they stand; names of parameters are decoded as those of web forms.
+// What a whole message is.
 #[tactic(auto, unfolding(crate::specs::Message::request_of))]
-pub fn read_request(
+fn request_in(
     alloc: Global,
     method: &str,
     target: &str,
-    body: &[u8],
+    body: Vec<u8>,
 ) -> Result<Request, RequestError>
-    ensures request { IfOk result (λ request. request_of method.now target.now body.now ≡ Ok (seen request)) }
-    ensures refused { IfErr result (λ e. e ≢ RequestError.NoMemory → request_of method.now target.now body.now ≡ Err e) }
+    ensures request { IfOk result (λ request. request_of method.now target.now body.items ≡ Ok (seen request)) }
+    ensures refused { IfErr result (λ e. e ≢ RequestError.NoMemory → request_of method.now target.now body.items ≡ Err e) }
 {
     let (path, query) = split_target(target);
     let Some(place) = place_of(path) else {
@@ -248,4 +256,39 @@ pub fn read_request(
         Some(request) => Ok(request),
         None => Err(RequestError::BadBody),
     }
+}
+
+/// The request that a method, a target and a body are. The body is moved: that of a bulk request is handed on as it is.
+///
+/// A path of no known shape is refused first, then a method that its shape doesn't have, then a parameter other than
+/// `refresh` and `pretty`, then a body of another kind than the request takes: none (blank and `{}` count as none), a JSON
+/// object, an object or nothing at all, or the lines of a bulk request, which are handed on unread. The methods and the
+/// segments of the path are taken as they stand; names of parameters are decoded as those of web forms.
+pub fn read_body_request(
+    alloc: Global,
+    method: &str,
+    target: &str,
+    body: Vec<u8>,
+) -> Result<Request, RequestError>
+    ensures request { IfOk result (λ request. request_of method.now target.now body.items ≡ Ok (seen request)) }
+    ensures asked { length body.items ≤ body_limit → IfOk result (λ request. IsAsked (seen request)) }
+    ensures refused { IfErr result (λ e. e ≢ RequestError.NoMemory → request_of method.now target.now body.items ≡ Err e) }
+{
+    let request = request_in(alloc, method, target, body)?;
+    Ok(request)
+}
+
+/// The request that a method, a target and a body are, as [`read_body_request`] gives it; its body is a copy.
+pub fn read_request(
+    alloc: Global,
+    method: &str,
+    target: &str,
+    body: &[u8],
+) -> Result<Request, RequestError>
+    ensures request { IfOk result (λ request. request_of method.now target.now body.now ≡ Ok (seen request)) }
+    ensures asked { length body.now ≤ body_limit → IfOk result (λ request. IsAsked (seen request)) }
+    ensures refused { IfErr result (λ e. e ≢ RequestError.NoMemory → request_of method.now target.now body.now ≡ Err e) }
+{
+    let request = read_body_request(alloc, method, target, body.to_vec(alloc)?)?;
+    Ok(request)
 }

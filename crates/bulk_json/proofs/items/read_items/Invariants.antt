@@ -1,14 +1,17 @@
-use Rattle.std.proofs.Common.{◌≡◌, ◌<◌, ◌+◌, ◌^◌, length}
-use Rattle.std.specs.Option.{option_map}
-use Rattle.bulk_json.specs.Items.{onto, ahead_of}
+use Rattle.std.proofs.Common.{◌≡◌, length}
+use Rattle.bulk_json.specs.Items.{onto}
+use Rattle.bulk_json.specs.Lent.{ahead_in, path_in, HasRoom}
+use Rattle.bulk_json.specs.Sound.{AreItems, IsPath}
 use Rattle.bulk_json.proofs.items.read_items.Given as goal
 
--- the items so far, and those of what is left, are all
-abbrev pub invariant-loop-place : goal.invariant-loop-place
-invariant-loop-place l = record {
-  all : onto l.items.items (ahead_of (option_map (λ s. s.now) l.fn.path) l.place.number l.place.rest.now) ≡ ahead_of (option_map (λ s. s.now) l.fn.path) 1 l.fn.start.rest.now;
-  few : l.place.number + length l.place.rest.now < 2 ^ 64;
+-- the items so far, and those that are ahead, are all
+abbrev pub invariant-loop-items : goal.invariant-loop-items
+invariant-loop-items l = record {
+  all : onto l.items.items (ahead_in l.lines) ≡ ahead_in l.fn.start;
+  sound : IsPath (path_in l.fn.start) → AreItems l.items.items;
+  path : path_in l.lines ≡ path_in l.fn.start;
+  few : HasRoom l.lines;
 }
 
-abbrev pub decreases-loop-place : goal.decreases-loop-place
-decreases-loop-place l = length l.place.rest.now
+abbrev pub decreases-loop-items : goal.decreases-loop-items
+decreases-loop-items l = length l.lines.rest.now

@@ -4,7 +4,7 @@ use Rattle.serde_json.specs.Data.{Data}
 use Rattle.serde_json.specs.View.{members_view}
 use Rattle.json_walk.specs.Leaves.{at_members}
 use Rattle.json_walk.specs.Lent.{bytes_of, lent, rest_path}
-use Rattle.json_walk.proofs.Gather.{whole_at, members_at_end}
+use Rattle.json_walk.specs.WalkLaws.{whole_at, members_at_end}
 use Rattle.json_walk.proofs.at.+gather.Goals as goal
 
 pub gather-returns-then-is_stop : goal.gather-returns-then-is_stop

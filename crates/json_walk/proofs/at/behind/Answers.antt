@@ -1,6 +1,6 @@
 use Rattle.std.proofs.Common.{◌≡◌, [], length, true, false, not, bytes_eq, take, sym, ap, ◌∙◌, arith}
 use Rattle.json_walk.specs.Path.{behind_name}
-use Rattle.json_walk.proofs.Behind.{behind_other, behind_same}
+use Rattle.json_walk.specs.PathLaws.{behind_other, behind_same}
 use Rattle.json_walk.proofs.at.behind.Goals as goal
 
 pub returns-then-ne : goal.returns-then-ne

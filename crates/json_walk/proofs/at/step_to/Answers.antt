@@ -1,7 +1,7 @@
 use Rattle.std.proofs.Common.{◌≡◌, ◌+◌, ◌-◌, ◌≤◌, length, take, Some, option_map, sym, ap, ◌∙◌, arith}
 use Rattle.json_walk.specs.Lent.{bytes_of, rest_path}
 use Rattle.json_walk.specs.Path.{end, text, behind_name, below, whole}
-use Rattle.json_walk.proofs.Behind.{whole_next, place_before}
+use Rattle.json_walk.specs.PathLaws.{whole_next, place_before}
 use Rattle.json_walk.proofs.at.step_to.Goals as goal
 use Rattle.json_walk.proofs.at.step_to.Goals.{In-Some-Some}
 

@@ -1,0 +1,4 @@
+pub mod Backing
+pub mod BackingLaws
+pub mod Names
+pub mod Patterns
