@@ -16,7 +16,7 @@ use Rattle.serde_json.specs.Data.{Data}
 use Rattle.ts_mapping.specs.Roles.{is_aggregate, may_have}
 use Rattle.ts_mapping.specs.Schemas.{AreTemplateFields}
 use Rattle.synthetic_source.specs.Faults.{is_read, mapped_fault, takes_one}
-use Rattle.synthetic_source.specs.Gathered.{IsReadAs, AreRead, IsFaultyAt}
+use Rattle.synthetic_source.specs.Gathered.{AreTimed, IsReadAs, IsTimed, AreRead, IsFaultyAt}
 use Rattle.synthetic_source.specs.Readings.{IsOneRead, FitsOne, wrong_kind}
 use Rattle.synthetic_source.specs.Rows.{cell_of, single_cell}
 use Rattle.synthetic_source.specs.declared.errors.DocKind.{DocKind}
@@ -164,6 +164,25 @@ fields_step fs i f below is_f left =
     let e_f : drop i fs ≡ f ∷ drop (i + 1) fs = drop-cons fs i f below ∙ (λ j. (sym is_f) j ∷ drop (suc_is i j) fs) in
     let both : AreTemplateFields (f ∷ drop (i + 1) fs) = subst AreTemplateFields e_f left in
     (both.0.role, both.1)
+  where
+    suc_is : (i : ℕ) → suc i ≡ i + 1
+    suc_is i = omega arith
+
+-- the time shows nothing by itself
+pub absent_time : (kind : FieldType) (role : Role) (leaves : List Data) → role ≡ Time → IsTimed kind role leaves → IsReadAs kind role leaves (Good Absent)
+absent_time kind Time leaves is timed = (timed, refl, tt)
+absent_time kind Dimension leaves is timed = cc
+absent_time kind GaugeRole leaves is timed = cc
+absent_time kind Counter leaves is timed = cc
+absent_time kind Label leaves is timed = cc
+
+pub timed_step : (fs : List Field) (lss : List (List Data)) (i : ℕ) (f : Field) (ls : List Data) → i < length fs → i < length lss → f ≡ get_or fs i f → ls ≡ get_or lss i []
+    → AreTimed (drop i fs) (drop i lss) → IsTimed f.kind f.role ls × AreTimed (drop (i + 1) fs) (drop (i + 1) lss)
+timed_step fs lss i f ls below_f below_l is_f is_ls timed =
+    let e_f : drop i fs ≡ f ∷ drop (i + 1) fs = drop-cons fs i f below_f ∙ (λ j. (sym is_f) j ∷ drop (suc_is i j) fs) in
+    let e_l : drop i lss ≡ ls ∷ drop (i + 1) lss = drop-cons lss i [] below_l ∙ (λ j. (sym is_ls) j ∷ drop (suc_is i j) lss) in
+    let both : AreTimed (f ∷ drop (i + 1) fs) (ls ∷ drop (i + 1) lss) = subst (λ xs. AreTimed xs (ls ∷ drop (i + 1) lss)) e_f (subst (AreTimed (drop i fs)) e_l timed) in
+    (both.0, both.1)
   where
     suc_is : (i : ℕ) → suc i ≡ i + 1
     suc_is i = omega arith

@@ -29,18 +29,18 @@ use Rattle.synthetic_source.specs.declared.errors.DocError.{DocError}
 use Rattle.synthetic_source.specs.declared.errors.DocError.TheVariants.{Refused, NoMemory}
 use Rattle.synthetic_source.specs.declared.reading.Cells.{Cells}
 use Rattle.synthetic_source.specs.declared.reading.Cells.TheVariants.{FaultAt, All}
-use Rattle.synthetic_source.specs.declared.strays.Stray.{Stray}
+use Rattle.synthetic_source.specs.declared.typing.Stray.{Stray}
 use Rattle.synthetic_source.specs.declared.typing.Outcome.{Outcome}
 use Rattle.synthetic_source.specs.declared.typing.Outcome.TheVariants.{Row, Fault}
 use Rattle.synthetic_source.proofs.LeastPath.{is_less}
 use Rattle.synthetic_source.proofs.Search.{fields_rise, same_element}
 use Rattle.synthetic_source.proofs.Grouping.{same_bytes, other_bytes, not_same}
 
-tail_rise : (q : List ℕ) (fs : List Field) → RiseAfter q (paths_of fs) → Rise (paths_of fs)
+pub tail_rise : (q : List ℕ) (fs : List Field) → RiseAfter q (paths_of fs) → Rise (paths_of fs)
 tail_rise q [] rise = tt
 tail_rise q (f ∷ fs) rise = rise.1
 
-field_later : (p q : List ℕ) (fs : List Field) → IsBefore p q → RiseAfter q (paths_of fs) → field_at p fs ≡ None
+pub field_later : (p q : List ℕ) (fs : List Field) → IsBefore p q → RiseAfter q (paths_of fs) → field_at p fs ≡ None
 field_later p q [] before rise = refl
 field_later p q (f ∷ fs) before rise =
     let on = before_chain p q f.path before rise.0 in
@@ -61,7 +61,7 @@ none_earlier q none = by q.found none
     by false none = refl
 
 -- a path has no field where it has no place, and the other way round
-no_field : (p : List ℕ) (fs : List Field) → Rise (paths_of fs) → place_of p fs ≡ None → field_at p fs ≡ None
+pub no_field : (p : List ℕ) (fs : List Field) → Rise (paths_of fs) → place_of p fs ≡ None → field_at p fs ≡ None
 no_field p [] rise none = refl
 no_field p (f ∷ fs) rise none = go (slice_cmp nat_cmp p f.path) refl none (no_field p fs (tail_rise f.path fs rise))
   where
@@ -313,7 +313,7 @@ faulty_within fs lss (FaultAt n k) read = by fs lss n read
     by (f ∷ fs) (ls ∷ lss) zero is = omega arith
     by (f ∷ fs) (ls ∷ lss) (suc n) is = let rest = by fs lss n is.1 in omega arith
 
-no_time_fault : (ls : List Data) (t : ℤ) → time_in ls ≡ Some t → time_fault_in ls ≡ None
+pub no_time_fault : (ls : List Data) (t : ℤ) → time_in ls ≡ Some t → time_fault_in ls ≡ None
 no_time_fault [] t is = cc
 no_time_fault (l ∷ ls) t is = ap unless_time is
 

@@ -1,15 +1,24 @@
 -- The least path of several that has a fault.
-use Rattle.std.proofs.Common.{◌≡◌, ℕ, List, [], ◌∷◌, ◌++◌, Bool, true, false, Option, Some, None, refl, sym, subst, inl, inr}
-use Rattle.std.specs.Prelude.{unwrap_or}
-use Rattle.std.specs.Ordering.{is_lt}
+use Rattle.std.proofs.Common.{◌≡◌, ℕ, List, [], ◌∷◌, ◌++◌, Bool, true, false, cond, Option, Some, None, refl, sym, subst, inl, inr, append_assoc, append-nil}
+use Rattle.std.specs.Cmp.Lexicographic.{slice_cmp}
+use Rattle.std.specs.Ordering.{nat_cmp, is_lt}
 use Rattle.std.specs.declared.cmp.Ordering.{Ordering}
 use Rattle.std.specs.declared.cmp.Ordering.TheVariants.{Less, Equal, Greater}
 use Rattle.row_cells.specs.Dimensions.{IsBefore}
 use Rattle.row_cells.specs.JoinLaws.{before_chain, not_before_itself}
 use Rattle.row_cells.specs.declared.schemas.Field.{Field}
+use Rattle.serde_json.specs.Data.{Data}
 use Rattle.synthetic_source.specs.Faults.{stray_fault}
-use Rattle.synthetic_source.specs.Gathered.{AllSound, IsAmong, IsLeastStray, IsStrayAt, NoneBefore}
-use Rattle.synthetic_source.specs.declared.strays.Stray.{Stray}
+use Rattle.synthetic_source.specs.Gathered.{AllSound, IsAmong, IsLeastStray, NoneBefore, place_of, strays_of, with_stray}
+use Rattle.synthetic_source.specs.Strays.{seen_stray}
+use Rattle.synthetic_source.specs.Walked.{Held, after, at_place, least_step, or_held}
+use Rattle.synthetic_source.specs.declared.errors.DocKind.{DocKind}
+use Rattle.synthetic_source.specs.declared.typing.Stray.{Stray}
+
+-- the least of the paths that have a fault
+abbrev pub IsLeast : Bool → List Field → List (List ℕ) → Option (DocKind × List ℕ) → Type 0
+IsLeast strict fields paths None = AllSound strict fields paths
+IsLeast strict fields paths (Some f) = (stray_fault strict fields f.1 ≡ Some f.0) × IsAmong f.1 paths × NoneBefore strict fields f.1 paths
 
 sound_push : (strict : Bool) (fields : List Field) (ps : List (List ℕ)) (q : List ℕ) → AllSound strict fields ps → stray_fault strict fields q ≡ None → AllSound strict fields (ps ++ q ∷ [])
 sound_push strict fields [] q all none = (none, tt)
@@ -35,27 +44,6 @@ lower_before : (strict : Bool) (fields : List Field) (q s : List ℕ) (ps : List
 lower_before strict fields q s [] less none = tt
 lower_before strict fields q s (p ∷ ps) less none = ((λ before. none.0 (before_chain p q s before less)), lower_before strict fields q s ps less none.1)
 
-pub first_stray : (strict : Bool) (fields : List Field) (ps : List (List ℕ)) (q : List ℕ) (found : Option Stray) → AllSound strict fields ps → IsStrayAt strict fields q found → IsLeastStray strict fields (ps ++ q ∷ []) found
-first_stray strict fields ps q None all is = sound_push strict fields ps q all is
-first_stray strict fields ps q (Some s) all is =
-    let path : q ≡ s.path.now = sym is.1 in (
-      subst (λ p. stray_fault strict fields p ≡ Some s.kind) path is.0,
-      subst (λ p. IsAmong p (ps ++ q ∷ [])) path (among_last q ps),
-      subst (λ p. NoneBefore strict fields p (ps ++ q ∷ [])) path (before_push strict fields q ps q (sound_before strict fields q ps all) (λ before. absurd (not_before_itself q before))),
-    )
-
-pub kept_stray : (strict : Bool) (fields : List Field) (ps : List (List ℕ)) (q : List ℕ) (s : Stray) → IsLeastStray strict fields ps (Some s) → (IsBefore q s.path.now → ⊥) → IsLeastStray strict fields (ps ++ q ∷ []) (Some s)
-kept_stray strict fields ps q s is after = (is.0, among_push s.path.now ps q is.1, before_push strict fields s.path.now ps q is.2 (λ before. absurd (after before)))
-
-pub lesser_stray : (strict : Bool) (fields : List Field) (ps : List (List ℕ)) (q : List ℕ) (s : Stray) (found : Option Stray) → IsLeastStray strict fields ps (Some s) → IsBefore q s.path.now → IsStrayAt strict fields q found → IsLeastStray strict fields (ps ++ q ∷ []) (Some (unwrap_or found s))
-lesser_stray strict fields ps q s None is before at = (is.0, among_push s.path.now ps q is.1, before_push strict fields s.path.now ps q is.2 (λ less. at))
-lesser_stray strict fields ps q s (Some n) is before at =
-    let path : q ≡ n.path.now = sym at.1 in (
-      subst (λ p. stray_fault strict fields p ≡ Some n.kind) path at.0,
-      subst (λ p. IsAmong p (ps ++ q ∷ [])) path (among_last q ps),
-      subst (λ p. NoneBefore strict fields p (ps ++ q ∷ [])) path (before_push strict fields q ps q (lower_before strict fields q s.path.now ps before is.2) (λ less. absurd (not_before_itself q less))),
-    )
-
 pub is_less : (o : Ordering) → is_lt o ≡ true → o ≡ Less
 is_less Less is = refl
 is_less Equal is = cc
@@ -65,3 +53,36 @@ pub not_less : (o : Ordering) → is_lt o ≡ false → o ≡ Less → ⊥
 not_less Less is less = cc
 not_less Equal is less = cc
 not_less Greater is less = cc
+
+module _ (strict : Bool) (fields : List Field) where
+  -- one path more
+  least_push : (ps : List (List ℕ)) (q : List ℕ) (held : Option (DocKind × List ℕ)) → IsLeast strict fields ps held → IsLeast strict fields (ps ++ q ∷ []) (least_step strict fields q held)
+  least_push ps q None all = go (stray_fault strict fields q) refl
+    where
+      go : (o : Option DocKind) → stray_fault strict fields q ≡ o → IsLeast strict fields (ps ++ q ∷ []) (or_held o q None)
+      go None none = sound_push strict fields ps q all none
+      go (Some k) some = (some, among_last q ps, before_push strict fields q ps q (sound_before strict fields q ps all) (λ before. absurd (not_before_itself q before)))
+  least_push ps q (Some f) is = by (is_lt (slice_cmp nat_cmp q f.1)) refl
+    where
+      go : IsBefore q f.1 → (o : Option DocKind) → stray_fault strict fields q ≡ o → IsLeast strict fields (ps ++ q ∷ []) (or_held o q (Some f))
+      go before None none = (is.0, among_push f.1 ps q is.1, before_push strict fields f.1 ps q is.2 (λ less. none))
+      go before (Some k) some = (some, among_last q ps, before_push strict fields q ps q (lower_before strict fields q f.1 ps before is.2) (λ less. absurd (not_before_itself q less)))
+
+      by : (v : Bool) → is_lt (slice_cmp nat_cmp q f.1) ≡ v → IsLeast strict fields (ps ++ q ∷ []) (cond v (or_held (stray_fault strict fields q) q (Some f)) (Some f))
+      by true less = go (is_less _ less) (stray_fault strict fields q) refl
+      by false after = (is.0, among_push f.1 ps q is.1, before_push strict fields f.1 ps q is.2 (λ before. absurd (not_less _ after before)))
+
+  -- what a walk holds is the least of the paths where no field is
+  pub least_after : (es : List (List ℕ × Data)) (h : Held) (ps : List (List ℕ)) → IsLeast strict fields ps h.least → IsLeast strict fields (ps ++ strays_of fields es) (after strict fields h es).least
+  least_after [] h ps is = subst (λ qs. IsLeast strict fields qs h.least) (sym (append-nil ps)) is
+  least_after (e ∷ es) h ps is = go (place_of e.0 fields) (least_after es) where
+    go : (o : Option ℕ) → ((h : Held) (ps : List (List ℕ)) → IsLeast strict fields ps h.least → IsLeast strict fields (ps ++ strays_of fields es) (after strict fields h es).least)
+        → IsLeast strict fields (ps ++ with_stray o e.0 (strays_of fields es)) (after strict fields (at_place o strict fields h e.0 e.1) es).least
+    go None later =
+        subst (λ qs. IsLeast strict fields qs (after strict fields (at_place None strict fields h e.0 e.1) es).least) (append_assoc ps (e.0 ∷ []) (strays_of fields es))
+        (later (at_place None strict fields h e.0 e.1) (ps ++ e.0 ∷ []) (least_push ps e.0 h.least is))
+    go (Some at) later = later (at_place (Some at) strict fields h e.0 e.1) ps is
+
+  pub lent_least : (ps : List (List ℕ)) (s : Option Stray) → IsLeast strict fields ps (seen_stray s) → IsLeastStray strict fields ps s
+  lent_least ps None is = is
+  lent_least ps (Some s) is = is

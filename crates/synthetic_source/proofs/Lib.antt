@@ -1,7 +1,9 @@
 pub mod Added
 pub mod Back
 pub mod Cells
+pub mod Decided
 pub mod Documents
+pub mod Fronts
 pub mod Fuel
 pub mod Grouping
 pub mod Leaves
@@ -22,5 +24,8 @@ pub mod Rows
 pub mod Search
 pub mod Shows
 pub mod Sorting
+pub mod Timed
 pub mod Times
+pub mod TypedWalk
 pub mod Values
+pub mod OneWalk

@@ -23,7 +23,7 @@ use Rattle.serde_json.specs.Find.{of_integer}
 use Rattle.serde_json.specs.View.{items_of}
 use Rattle.time_text.specs.Instant.{IsInstant}
 use Rattle.time_text.specs.Printed.{instant_text}
-use Rattle.time_text.proofs.PrintedLemmas.{instant_text_ascii}
+use Rattle.time_text.specs.PrintedLaws.{instant_text_ascii}
 use Rattle.ts_mapping.specs.Schemas.{IsTemplateSchema}
 use Rattle.synthetic_source.specs.Levels.{Shown, longest, levels}
 use Rattle.synthetic_source.specs.Normal.{whole_data, scalar_data, list_data, parts_data, cell_data, shown_cell, shown_as, shown_of, count_shown, shown_row, norm}

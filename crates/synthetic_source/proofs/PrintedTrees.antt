@@ -15,7 +15,7 @@ use Rattle.serde_json.specs.Written.{number_text, outline, items_outline, member
 use Rattle.serde_json.proofs.Numbers.{number_of-decimal, number_of-negative}
 use Rattle.serde_json.proofs.Texts.{print-outline}
 use Rattle.json_walk.specs.Tree.{tree_of}
-use Rattle.json_walk.proofs.Trees.{tree_at_utf8}
+use Rattle.json_walk.specs.TreeLaws.{tree_at_utf8}
 use Rattle.reply_json.specs.Reply.{text}
 use Rattle.row_cells.specs.Dimensions.{IsBefore}
 use Rattle.row_cells.specs.JoinLaws.{before_chain, after_is}

@@ -7,7 +7,7 @@ use Rattle.serde_json.specs.Data.{string}
 use Rattle.serde_json.specs.Find.{as_i64, of_integer}
 use Rattle.time_text.specs.Instant.{IsInstant}
 use Rattle.time_text.specs.Printed.{instant_text}
-use Rattle.time_text.proofs.PrintedLemmas.{print_reads}
+use Rattle.time_text.specs.PrintedLaws.{print_reads}
 use Rattle.row_cells.specs.declared.scalars.Scalar.{Scalar}
 use Rattle.row_cells.specs.declared.scalars.Scalar.TheVariants.{Whole, Flag, Word}
 use Rattle.row_cells.specs.declared.schemas.FieldType.{FieldType}

@@ -3,6 +3,7 @@ use Rattle.std.specs.Prelude.{◌≡◌, ◌⊎◌, ℕ, suc, zero, Bool, true, 
 use Rattle.std.specs.Borrow.{Bor}
 use Rattle.row_cells.specs.declared.schemas.FieldType.{FieldType}
 use Rattle.row_cells.specs.declared.schemas.Role.{Role}
+use Rattle.row_cells.specs.declared.schemas.Role.TheVariants.{Time, Dimension, Gauge, Counter, Label}
 use Rattle.row_cells.specs.declared.schemas.Field.{Field}
 use Rattle.row_cells.specs.declared.rows.Cell.{Cell}
 use Rattle.row_cells.specs.Dimensions.{IsBefore}
@@ -16,7 +17,7 @@ use Rattle.synthetic_source.specs.Places.{found_among}
 use Rattle.synthetic_source.specs.Rows.{cell_of}
 use Rattle.synthetic_source.specs.declared.errors.DocKind.{DocKind}
 use Rattle.synthetic_source.specs.declared.gathering.Slot.{Slot}
-use Rattle.synthetic_source.specs.declared.strays.Stray.{Stray}
+use Rattle.synthetic_source.specs.declared.typing.Stray.{Stray}
 use Rattle.synthetic_source.specs.declared.reading.Read.{Read}
 use Rattle.synthetic_source.specs.declared.reading.Read.TheVariants.{Fault, Good}
 use Rattle.synthetic_source.specs.declared.reading.Cells.{Cells}
@@ -90,6 +91,19 @@ IsLeastStray strict fields paths (Some s) = (stray_fault strict fields s.path.no
 abbrev pub IsStrayAt : Bool → List Field → List ℕ → Option Stray → Type 0
 IsStrayAt strict fields p None = stray_fault strict fields p ≡ None
 IsStrayAt strict fields p (Some s) = (stray_fault strict fields p ≡ Some s.kind) × (s.path.now ≡ p)
+
+-- the leaves of a time are an instant, or there are none
+abbrev pub IsTimed : FieldType → Role → List Data → Type 0
+IsTimed kind Time leaves = mapped_fault kind Time leaves ≡ None
+IsTimed kind Dimension leaves = Unit {0}
+IsTimed kind Gauge leaves = Unit {0}
+IsTimed kind Counter leaves = Unit {0}
+IsTimed kind Label leaves = Unit {0}
+
+abbrev pub AreTimed : List Field → List (List Data) → Type 0
+AreTimed [] lss = Unit {0}
+AreTimed (f ∷ fs) [] = Unit {0}
+AreTimed (f ∷ fs) (ls ∷ lss) = IsTimed f.kind f.role ls × AreTimed fs lss
 
 -- what leaves are at a field: a fault, or a cell that fits it
 abbrev pub IsReadAs : FieldType → Role → List Data → Read → Type 0

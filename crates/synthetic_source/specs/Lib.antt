@@ -1,5 +1,7 @@
 pub mod Contents
+pub mod Document
 pub mod Faults
+pub mod Fronts
 pub mod Gathered
 pub mod Groups
 pub mod Laws
@@ -15,5 +17,7 @@ pub mod Seen
 pub mod Sides
 pub mod Smalls
 pub mod Sorts
+pub mod Strays
 pub mod Times
 pub mod Values
+pub mod Walked

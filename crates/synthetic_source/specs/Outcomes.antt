@@ -6,11 +6,14 @@ use Rattle.row_cells.specs.declared.schemas.Schema.{Schema}
 use Rattle.row_cells.specs.Fitting.{CellsFit}
 use Rattle.serde_json.specs.Data.{Data}
 use Rattle.synthetic_source.specs.Faults.{HasNoFault, IsCellFault}
+use Rattle.synthetic_source.specs.Gathered.{AreReadAs}
 use Rattle.synthetic_source.specs.Rows.{cells_of}
+use Rattle.synthetic_source.specs.Strays.{seen_stray}
 use Rattle.synthetic_source.specs.Times.{IsFirstOf, IsRefusal}
+use Rattle.synthetic_source.specs.Walked.{Held}
 use Rattle.synthetic_source.specs.declared.reading.Cells.{Cells}
 use Rattle.synthetic_source.specs.declared.reading.Cells.TheVariants.{FaultAt, All}
-use Rattle.synthetic_source.specs.declared.strays.Stray.{Stray}
+use Rattle.synthetic_source.specs.declared.typing.Stray.{Stray}
 use Rattle.synthetic_source.specs.declared.typing.Outcome.{Outcome}
 use Rattle.synthetic_source.specs.declared.typing.Outcome.TheVariants.{Row, Fault}
 
@@ -29,3 +32,11 @@ IsDecided fields (FaultAt n k) stray (Fault e) = (d : Field) → IsFirstOf k (sl
 abbrev pub IsOutcome : Schema → Bool → Data → Outcome → Type 0
 IsOutcome schema strict d (Row cells) = HasNoFault schema strict d × (cells ≡ cells_of schema d) × CellsFit false schema.rises 1 schema.fields cells
 IsOutcome schema strict d (Fault e) = IsCellFault schema strict d e
+
+-- what is decided of the leaves that a walk holds
+pub record IsSettled (fields : List Field) (h : Held) (o : Outcome) : Type 0 where
+  pub cells : Cells
+  pub stray : Option Stray
+  pub least : seen_stray stray ≡ h.least
+  pub read : AreReadAs fields h.slots cells
+  pub decided : IsDecided fields cells stray o

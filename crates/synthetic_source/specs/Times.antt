@@ -7,7 +7,7 @@ use Rattle.json_walk.specs.Lent.{value_of}
 use Rattle.json_walk.specs.declared.at.Leaf.{Leaf}
 use Rattle.ts_mapping.specs.Paths.{timestamp}
 use Rattle.synthetic_source.specs.Faults.{time_fault_in}
-use Rattle.synthetic_source.specs.declared.strays.Stray.{Stray}
+use Rattle.synthetic_source.specs.declared.typing.Stray.{Stray}
 use Rattle.synthetic_source.specs.declared.errors.DocKind.{DocKind}
 use Rattle.synthetic_source.specs.declared.errors.DocError.{DocError}
 use Rattle.synthetic_source.specs.declared.errors.DocError.TheVariants.{Refused, NoMemory}

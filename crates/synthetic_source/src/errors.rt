@@ -31,6 +31,11 @@ pub enum DocError {
 }
 
 impl From<edge_face::NoMemory> for DocError {
+    ghost use Rattle.std.specs.Prelude.{◌≡◌};
+    ghost use Rattle.synthetic_source.specs.declared.errors.DocError.TheVariants.{NoMemory as OutOfMemory};
+
+    ghost from_gives = { λ _ e. e ≡ OutOfMemory };
+
     fn from(_: edge_face::NoMemory) -> DocError {
         DocError::NoMemory
     }

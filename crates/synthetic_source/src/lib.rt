@@ -13,13 +13,12 @@ mod printed;
 mod reading;
 mod rebuilding;
 mod strays;
-#[cfg(test)]
-mod tests;
 mod typing;
+mod walking;
 mod what;
 
 pub use errors::{DocError, DocKind};
 pub use laws::rebuilt_types;
 pub use printed::printed_reads_back;
 pub use rebuilding::{rebuild, rebuild_value};
-pub use typing::{Typed, read_time, type_doc};
+pub use typing::{Typed, read_time, type_cells, type_doc};

@@ -3,11 +3,11 @@ ghost use Rattle.std.specs.Prelude.{◌≡◌, ◌<◌, [], ◌∷◌, ◌++◌,
 ghost use Rattle.serde_json.specs.View.{view};
 ghost use Rattle.row_cells.specs.declared.schemas.FieldType.TheVariants.{Aggregate};
 ghost use Rattle.row_cells.specs.declared.schemas.Role.{Role};
-ghost use Rattle.row_cells.specs.declared.schemas.Role.TheVariants.{Label, Time};
+ghost use Rattle.row_cells.specs.declared.schemas.Role.TheVariants.{Label};
 ghost use Rattle.ts_mapping.specs.Roles.{is_aggregate as aggregate, may_have};
 ghost use Rattle.ts_mapping.specs.Schemas.{AreTemplateFields};
 ghost use Rattle.synthetic_source.specs.Faults.{is_read as has_reading, mapped_fault, takes_one};
-ghost use Rattle.synthetic_source.specs.Gathered.{AreReadAs, IsReadAs, seen_leaves, slot_leaves};
+ghost use Rattle.synthetic_source.specs.Gathered.{AreReadAs, AreTimed, IsReadAs, IsTimed, seen_leaves, slot_leaves};
 ghost use Rattle.synthetic_source.specs.Rows.{readings_of};
 ghost use Rattle.synthetic_source.specs.Readings.{AllValues, AreReadings, IsOneRead, any_unread, wrong_kind as wrong};
 
@@ -215,24 +215,7 @@ fn read_taken(
     Ok(Read::Fault(fault))
 }
 
-fn read_time_field(
-    alloc: Global,
-    kind: FieldType,
-    first: &Value,
-    more: &[&Value],
-) -> Result<Read, NoMemory>
-    requires { may_have kind Time ≡ true }
-    ensures { IfOk result (IsReadAs kind Time (view first.now ∷ seen_leaves more.now)) }
-{
-    if !is_read(alloc, kind, first)? {
-        return Ok(Read::Fault(DocKind::WrongType));
-    }
-    if !are_read(alloc, kind, more)? {
-        return Ok(Read::Fault(DocKind::WrongType));
-    }
-    Ok(Read::Good(Cell::Absent))
-}
-
+#[tactic(auto, using(crate::proofs::Cells::absent_time))]
 fn read_leaves(
     alloc: Global,
     kind: FieldType,
@@ -240,11 +223,12 @@ fn read_leaves(
     first: &Value,
     more: &[&Value],
 ) -> Result<Read, NoMemory>
-    requires { may_have kind role ≡ true }
+    requires role { may_have kind role ≡ true }
+    requires timed { IsTimed kind role (view first.now ∷ seen_leaves more.now) }
     ensures { IfOk result (IsReadAs kind role (view first.now ∷ seen_leaves more.now)) }
 {
     match role {
-        Role::Time => read_time_field(alloc, kind, first, more),
+        Role::Time => Ok(Read::Good(Cell::Absent)),
         Role::Label => read_list(alloc, kind, first, more),
         Role::Dimension => read_taken(alloc, kind, role, first, more),
         Role::Gauge => read_taken(alloc, kind, role, first, more),
@@ -253,7 +237,8 @@ fn read_leaves(
 }
 
 fn read_cell(alloc: Global, field: &Field, slot: &Slot<'_>) -> Result<Read, NoMemory>
-    requires { may_have field.now.kind field.now.role ≡ true }
+    requires role { may_have field.now.kind field.now.role ≡ true }
+    requires timed { IsTimed field.now.kind field.now.role (slot_leaves slot.now) }
     ensures { IfOk result (IsReadAs field.now.kind field.now.role (slot_leaves slot.now)) }
 {
     match slot.first {
@@ -265,10 +250,11 @@ fn read_cell(alloc: Global, field: &Field, slot: &Slot<'_>) -> Result<Read, NoMe
     }
 }
 
-/// The cells of all fields, or the first fault in the order of the fields.
+/// The cells of all fields, or the first fault in the order of the fields. The time was read before.
 pub fn read_cells(alloc: Global, fields: &[Field], slots: &[Slot<'_>]) -> Result<Cells, NoMemory>
     requires fields { AreTemplateFields fields.now }
     requires long { length slots.now ≡ length fields.now }
+    requires timed { AreTimed fields.now (map slot_leaves slots.now) }
     ensures { IfOk result (AreReadAs fields.now (map slot_leaves slots.now)) }
 {
     let mut cells = Vec::with_capacity(alloc, fields.len())?;

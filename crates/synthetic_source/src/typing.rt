@@ -1,27 +1,30 @@
 //! Documents to rows.
-ghost use Rattle.std.specs.Prelude.{◌≡◌, [], map, option_map, Some, false, IsSome, IfOk, IfErr, IfSome};
+ghost use Rattle.std.specs.Prelude.{◌≡◌, [], ◌∷◌, length, map, Some, false, IsSome, IfOk, IfErr, OnOk, Ok};
 ghost use Rattle.serde_json.specs.View.{view};
 ghost use Rattle.row_cells.specs.Fitting.{CellsFit};
 ghost use Rattle.time_text.specs.Instant.{IsInstant};
 ghost use Rattle.json_walk.specs.Lent.{value_of};
-ghost use Rattle.ts_mapping.specs.Schemas.{IsTemplateSchema};
-ghost use Rattle.row_cells.specs.declared.schemas.FieldType.TheVariants.{Date};
-ghost use Rattle.ts_mapping.specs.Readings.{reading_of};
-ghost use Rattle.synthetic_source.specs.Faults.{IsFault, IsTimeFault, number_read, time_in, time_of};
+ghost use Rattle.ts_mapping.specs.Schemas.{AreTemplateFields, IsTemplateSchema};
+ghost use Rattle.synthetic_source.specs.Document.{IsFaultOf, document_cells, document_of};
+ghost use Rattle.synthetic_source.specs.Faults.{HasNoFault, IsCellFault, IsFault, IsTimeFault, time_in, time_of};
+ghost use Rattle.synthetic_source.specs.Gathered.{AreTimed, slot_leaves};
 ghost use Rattle.synthetic_source.specs.Times.{AllLent, IsFirstOf, IsRefusal, IsTimeFaultIn, lent_leaves};
-ghost use Rattle.synthetic_source.specs.Outcomes.{IsDecided, IsOutcome, IsWithin};
-ghost use Rattle.synthetic_source.specs.Rows.{IsTyped};
+ghost use Rattle.synthetic_source.specs.Outcomes.{IsDecided, IsOutcome, IsSettled, IsWithin};
+ghost use Rattle.synthetic_source.specs.Rows.{IsTyped, cells_of};
+ghost use Rattle.synthetic_source.specs.Walked.{seen_fault, seen_walk};
+ghost use Rattle.synthetic_source.specs.Strays.{seen_stray};
 
 use crate::errors::{DocError, DocKind};
-use crate::gathering::{gather, stops};
 use crate::reading::{Cells, read_cells};
-use crate::strays::{Stray, least_stray};
+use crate::strays::LeastFault;
+use crate::walking::{Walk, walk_document};
 use edge_face::{NoMemory, Text};
-use json_walk::{Leaf, leaves, leaves_at};
+use json_walk::{Leaf, leaves_at};
 use row_cells::{Cell, Field, FieldType, Scalar, Schema};
 use serde_json::Value;
 use sqlite_items::Items;
 use std::alloc::Global;
+use std::str::from_utf8;
 use ts_mapping::read_scalar;
 
 /// A document by the fields of a schema: its time in milliseconds since 1970 began, in UTC, and a cell for each field. The cell
@@ -43,18 +46,18 @@ fn refused(alloc: Global, kind: DocKind, path: &str) -> DocError
     }
 }
 
-// The instant that a leaf is.
-fn instant_of(alloc: Global, leaf: Option<&Value>) -> Result<Option<i64>, NoMemory>
-    requires { IsSome leaf }
-    ensures value { IfOk result (λ time. option_map (λ v. number_read (reading_of Date (view v.now))) leaf.entry ≡ Some time) }
-    ensures fits { IfOk result (λ time. IfSome time IsInstant) }
+// The time that a leaf is.
+fn time_of_leaf(alloc: Global, leaf: &Value) -> Result<i64, DocError>
+    ensures ok { IfOk result (λ time. time_in (view leaf.now ∷ []) ≡ Some time) }
+    ensures fits { IfOk result IsInstant }
+    ensures refused { IfErr result (IsTimeFaultIn (view leaf.now ∷ [])) }
 {
-    match leaf {
-        None => Ok(None),
-        Some(value) => match read_scalar(alloc, FieldType::Date, value)? {
-            Some(Scalar::Whole(time)) => Ok(Some(time)),
-            _ => Ok(None),
-        },
+    let Ok(read) = read_scalar(alloc, FieldType::Date, leaf) else {
+        return Err(DocError::NoMemory);
+    };
+    match read {
+        Some(Scalar::Whole(time)) => Ok(time),
+        _ => Err(refused(alloc, DocKind::BadTime, TIMESTAMP)),
     }
 }
 
@@ -68,15 +71,10 @@ fn time_of_leaves(alloc: Global, found: &[Leaf<'_>]) -> Result<i64, DocError>
 {
     match found {
         [] => Err(refused(alloc, DocKind::NoTime, TIMESTAMP)),
-        [leaf] => {
-            let Ok(time) = instant_of(alloc, leaf.value()) else {
-                return Err(DocError::NoMemory);
-            };
-            match time {
-                Some(time) => Ok(time),
-                None => Err(refused(alloc, DocKind::BadTime, TIMESTAMP)),
-            }
-        }
+        [leaf] => match leaf.value() {
+            Some(value) => time_of_leaf(alloc, value),
+            None => Err(refused(alloc, DocKind::NoTime, TIMESTAMP)),
+        },
         _ => Err(refused(alloc, DocKind::BadTime, TIMESTAMP)),
     }
 }
@@ -94,6 +92,29 @@ pub fn read_time(alloc: Global, doc: &Value) -> Result<i64, DocError>
     };
     let time = time_of_leaves(alloc, found.as_slice())?;
     Ok(time)
+}
+
+/// A fault where no field is.
+#[derive(Clone, Copy)]
+pub struct Stray<'f> {
+    pub kind: DocKind,
+    pub path: &'f str,
+}
+
+// The path of a fault is a text, since names are.
+fn lend_fault(least: &Option<LeastFault>) -> Result<Option<Stray<'_>>, NoMemory>
+    ensures { IfOk result (λ stray. seen_stray stray ≡ seen_fault least.now) }
+{
+    match least {
+        None => Ok(None),
+        Some(fault) => match from_utf8(fault.path.as_slice()) {
+            Ok(path) => Ok(Some(Stray {
+                kind: fault.kind,
+                path,
+            })),
+            Err(_) => Err(NoMemory),
+        },
+    }
 }
 
 // The first of the faults of a field and where no field is.
@@ -134,36 +155,77 @@ fn decide(alloc: Global, fields: &[Field], cells: Cells, stray: Option<Stray<'_>
     }
 }
 
+fn settle(alloc: Global, fields: &[Field], walk: &Walk<'_>) -> Result<Outcome, NoMemory>
+    requires fields { AreTemplateFields fields.now }
+    requires long { length walk.now.slots.items ≡ length fields.now }
+    requires timed { AreTimed fields.now (map slot_leaves walk.now.slots.items) }
+    ensures { IfOk result (IsSettled fields.now (seen_walk walk.now)) }
+{
+    let stray = lend_fault(&walk.strays.least)?;
+    let cells = read_cells(alloc, fields, walk.slots.as_slice())?;
+    Ok(decide(alloc, fields, cells, stray))
+}
+
 fn outcome_of(
     alloc: Global,
     schema: &Schema,
     strict: bool,
     doc: &Value,
 ) -> Result<Outcome, NoMemory>
-    requires { IsTemplateSchema schema.now }
+    requires schema { IsTemplateSchema schema.now }
+    requires timed { IsSome (time_of (view doc.now)) }
     ensures { IfOk result (IsOutcome schema.now strict (view doc.now)) }
 {
     let fields = schema.fields.as_slice();
-    let stops = stops(alloc, fields)?;
-    let found = leaves(alloc, doc, &stops)?;
-    let gathered = gather(alloc, fields, &found)?;
-    let stray = least_stray(strict, fields, gathered.strays.as_slice());
-    let cells = read_cells(alloc, fields, gathered.slots.as_slice())?;
-    Ok(decide(alloc, fields, cells, stray))
+    let walk = walk_document(alloc, strict, fields, doc)?;
+    let outcome = settle(alloc, fields, &walk)?;
+    Ok(outcome)
 }
 
-/// A document by the fields of a schema: its time, and a cell for each field. Values of labels are in order, texts among them
-/// once.
-///
-/// It is refused where the time is at fault as `read_time` says, and else at the first path in byte order that has a fault:
-/// `Unmapped`, `NotLeaf`, `WrongType`, `ManyValues` or `BadAggregate`. `strict` tells whether a leaf where no field is is a
-/// fault.
-pub fn type_doc(
+fn decide_cells(
     alloc: Global,
     schema: &Schema,
     strict: bool,
     doc: &Value,
-) -> Result<Typed, DocError>
+) -> Result<Items<Cell>, DocError>
+    requires schema { IsTemplateSchema schema.now }
+    requires timed { IsSome (time_of (view doc.now)) }
+    ensures sound { OnOk result (HasNoFault schema.now strict (view doc.now)) }
+    ensures cells { IfOk result (λ cells. cells ≡ cells_of schema.now (view doc.now)) }
+    ensures fits { IfOk result (λ cells. CellsFit false schema.now.rises 1 schema.now.fields cells) }
+    ensures refused { IfErr result (IsCellFault schema.now strict (view doc.now)) }
+{
+    let Ok(outcome) = outcome_of(alloc, schema, strict, doc) else {
+        return Err(DocError::NoMemory);
+    };
+    match outcome {
+        Outcome::Row(cells) => Ok(cells),
+        Outcome::Fault(fault) => Err(fault),
+    }
+}
+
+/// The cells of a document, whose time was read before: for each field of a schema one, as in `type_doc`, or the fault at the
+/// first path in byte order that has one.
+#[tactic(auto, using(crate::proofs::Decided::cells_are, crate::proofs::Decided::cell_fault_is))]
+pub fn type_cells(
+    alloc: Global,
+    schema: &Schema,
+    strict: bool,
+    doc: &Value,
+) -> Result<Items<Cell>, DocError>
+    requires schema { IsTemplateSchema schema.now }
+    requires timed { IsSome (time_of (view doc.now)) }
+    ensures cells { IfOk result (λ cells. document_cells schema.now strict (view doc.now) ≡ Ok cells) }
+    ensures fault { IfErr result (IsFaultOf (document_cells schema.now strict (view doc.now))) }
+    ensures fits { IfOk result (λ cells. CellsFit false schema.now.rises 1 schema.now.fields cells) }
+{
+    match decide_cells(alloc, schema, strict, doc) {
+        Ok(cells) => Ok(cells),
+        Err(fault) => Err(fault),
+    }
+}
+
+fn decide_doc(alloc: Global, schema: &Schema, strict: bool, doc: &Value) -> Result<Typed, DocError>
     requires { IsTemplateSchema schema.now }
     ensures ok { IfOk result (IsTyped schema.now strict (view doc.now)) }
     ensures fits { IfOk result (λ typed. IsInstant typed.time × CellsFit false schema.now.rises 1 schema.now.fields typed.cells) }
@@ -176,5 +238,31 @@ pub fn type_doc(
     match outcome {
         Outcome::Row(cells) => Ok(Typed { time, cells }),
         Outcome::Fault(fault) => Err(fault),
+    }
+}
+
+/// A document by the fields of a schema: its time, and a cell for each field. Values of labels are in order, texts among them
+/// once.
+///
+/// It is refused where the time is at fault as `read_time` says, and else at the first path in byte order that has a fault:
+/// `Unmapped`, `NotLeaf`, `WrongType`, `ManyValues` or `BadAggregate`. `strict` tells whether a leaf where no field is is a
+/// fault.
+#[tactic(auto, using(crate::proofs::Decided::typed_is, crate::proofs::Decided::fault_is))]
+pub fn type_doc(
+    alloc: Global,
+    schema: &Schema,
+    strict: bool,
+    doc: &Value,
+) -> Result<Typed, DocError>
+    requires { IsTemplateSchema schema.now }
+    ensures row { IfOk result (λ typed. document_of schema.now strict (view doc.now) ≡ Ok typed) }
+    ensures fault { IfErr result (IsFaultOf (document_of schema.now strict (view doc.now))) }
+    ensures ok { IfOk result (IsTyped schema.now strict (view doc.now)) }
+    ensures fits { IfOk result (λ typed. IsInstant typed.time × CellsFit false schema.now.rises 1 schema.now.fields typed.cells) }
+    ensures refused { IfErr result (IsFault schema.now strict (view doc.now)) }
+{
+    match decide_doc(alloc, schema, strict, doc) {
+        Ok(typed) => Ok(typed),
+        Err(fault) => Err(fault),
     }
 }

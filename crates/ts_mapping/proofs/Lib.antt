@@ -2,6 +2,7 @@ pub mod Digits
 pub mod LeastLemmas
 pub mod Nothing
 pub mod Placing
+pub mod Ranged
 pub mod Refusals
 pub mod SchemaLemmas
 pub mod Sets

@@ -6,6 +6,7 @@ pub mod Looks
 pub mod Outcomes
 pub mod Paths
 pub mod Properties
+pub mod Ranges
 pub mod Readings
 pub mod Roles
 pub mod Schemas

@@ -4,7 +4,7 @@ use Rattle.std.specs.Io.BufRead.{ends_with_byte}
 use Rattle.std.specs.List.{list_all}
 use Rattle.serde_json.specs.Data.{Data}
 use Rattle.serde_json.specs.Find.{get, as_u64, as_number}
-use Rattle.bulk_json.specs.Names.{is_stream_name}
+use Rattle.index_names.specs.Names.{is_stream_name}
 use Rattle.row_cells.specs.declared.schemas.FieldType.{FieldType}
 use Rattle.ts_mapping.specs.Fields.{kind_of}
 use Rattle.ts_mapping.specs.Least.{all_faults, fault_unless, under}

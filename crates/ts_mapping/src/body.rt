@@ -11,8 +11,8 @@ use crate::least::Least;
 use crate::trees::{
     check_names, has_to_be_object, is_object, may_be_empty_list, may_be_object, member, texts,
 };
-use bulk_json::is_stream_name;
 use edge_face::{NoMemory, Text};
+use index_names::is_stream_name;
 use serde_json::Value;
 use sqlite_items::Items;
 use std::alloc::Global;

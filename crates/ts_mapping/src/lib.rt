@@ -20,8 +20,6 @@ mod routing;
 mod settings;
 mod shapes;
 mod templates;
-#[cfg(test)]
-mod tests;
 mod trees;
 
 pub use kinds::MapKind;

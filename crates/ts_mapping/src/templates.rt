@@ -2,13 +2,14 @@
 ghost use Rattle.std.specs.Prelude.{◌≡◌, false, true, None, IfErr, IfOk};
 ghost use Rattle.serde_json.specs.View.{view};
 ghost use Rattle.ts_mapping.specs.Faults.{refusal_of};
+ghost use Rattle.ts_mapping.specs.Ranges.{IsInRange, mapping_of};
 ghost use Rattle.ts_mapping.specs.Schemas.{IsTemplateSchema};
 ghost use Rattle.ts_mapping.specs.Templates.{IsRefusal, template_of};
 
 use crate::kinds::MapKind;
 use crate::making::{Outcome, read_body};
 use edge_face::{NoMemory, Text};
-use row_cells::Schema;
+use row_cells::{Schema, copy_schema};
 use serde_json::Value;
 use sqlite_items::Items;
 use std::alloc::Global;
@@ -44,6 +45,32 @@ pub struct Mapping {
     pub schema: Schema,
 }
 
+impl Template {
+    /// What an index that is made with the template keeps of it.
+    pub fn mapping(&self, alloc: Global) -> Result<Mapping, NoMemory>
+        ensures { IfOk result (λ m. m ≡ mapping_of self.now) }
+    {
+        Ok(Mapping {
+            strict: self.strict,
+            shards: self.shards,
+            schema: copy_schema(alloc, &self.schema)?,
+        })
+    }
+}
+
+impl Mapping {
+    /// A copy of the mapping.
+    pub fn copy(&self, alloc: Global) -> Result<Mapping, NoMemory>
+        ensures { IfOk result (λ m. m ≡ self.now) }
+    {
+        Ok(Mapping {
+            strict: self.strict,
+            shards: self.shards,
+            schema: copy_schema(alloc, &self.schema)?,
+        })
+    }
+}
+
 /// Why a body gives no template.
 #[derive(Debug, Drop, Error)]
 pub enum MapError {
@@ -76,6 +103,7 @@ impl From<NoMemory> for MapError {
 pub fn read_template(alloc: Global, name: &Text, body: &Value) -> Result<Template, MapError>
     ensures ok { IfOk result (λ t. (refusal_of (view body.now) ≡ None) × (t ≡ template_of name.now (view body.now))) }
     ensures refused { IfErr result (IsRefusal (view body.now)) }
+    ensures ranges { IfOk result IsInRange }
     ensures schema { IfOk result (λ t. IsTemplateSchema t.schema) }
     ensures raw { IfOk result (λ t. t.schema.folded ≡ false) }
     ensures rising { IfOk result (λ t. t.schema.rises ≡ true) }
