@@ -8,8 +8,8 @@ use Rattle.std.proofs.Math.Seq.{take-add}
 use Rattle.column_pack.specs.Digits.{bytes_for}
 use Rattle.column_block.specs.Presence.{presence, present, flags_of, flags_in, ones, spread}
 use Rattle.column_block.specs.Spelling.{IsAhead}
-use Rattle.column_block.specs.Found.{IsFound}
-use Rattle.column_block.proofs.Fronts.{take-front, drop-front}
+use Rattle.packed_lists.specs.Found.{IsFound}
+use Rattle.packed_lists.specs.Laws.Fronts.{take-front, drop-front}
 use Rattle.column_block.proofs.Presences.{length-presence, flags-are, present-take, present-drop, length-present, flags-take, length-flags, ones-append}
 
 -- which rows have a value, by the bytes

@@ -17,7 +17,7 @@ use Rattle.column_block.specs.Presence.{present}
 use Rattle.column_block.specs.Ranges.{parts_of_one}
 use Rattle.column_block.specs.Rules.{AreParts, Each}
 use Rattle.column_block.proofs.Aheads.{count-order, range-values}
-use Rattle.column_block.proofs.Placing.{range-on}
+use Rattle.packed_lists.specs.Laws.Placing.{range-on}
 use Rattle.column_block.proofs.SixLists.{none, block-few}
 
 module _ {F I : Type 0} {none : F} {merge : F → F → F} {reach : F → ℕ} (laws : FoldLaws none merge reach) (one : I → F) where

@@ -1,10 +1,4 @@
-pub mod Fronts
-pub mod Decodes
-pub mod Placing
-pub mod Putting
-pub mod Founds
 pub mod Presences
-pub mod Each
 pub mod Aheads
 pub mod Halved
 pub mod Cuts

@@ -7,16 +7,16 @@ use Rattle.std.specs.Option.{is_some}
 use Rattle.std.proofs.lemmas.Bool.{cases_lt}
 use Rattle.std.proofs.lemmas.List.{append_assoc, length-append, length-map, length-take-le, get_or_append_left}
 use Rattle.fold_law.specs.declared.measures.Parts.{Parts}
-use Rattle.column_pack.proofs.OneList.{block-count, block-size}
+use Rattle.column_pack.specs.Laws.OneList.{block-count, block-size}
 use Rattle.column_block.specs.declared.kinds.ColumnKind.{ColumnKind}
 use Rattle.column_block.specs.declared.kinds.Values.{Values}
 use Rattle.column_block.specs.declared.kinds.Values.TheVariants.{Whole, Parts as PartsOf, Wholes, Words}
-use Rattle.column_block.specs.Nums.{IsNums, AreNums}
+use Rattle.packed_lists.specs.Nums.{IsNums, AreNums}
 use Rattle.column_block.specs.Presence.{presence, present, flags_of, flags_in, ones, spread}
 use Rattle.column_block.specs.Rules.{Each, IsText, IsTextRow, IsColumnOf, KeepsRules, kind_of, rows_of}
 use Rattle.column_block.specs.Spelling.{IsIn, IsAhead, IsTableOf, Spells, high, low, whole_of, joined, lengths, ordinal, ordinals, six_lists, table_bytes, text_bytes}
-use Rattle.column_block.proofs.Each.{AreAlike, one-each, same-each}
-use Rattle.column_block.proofs.Fronts.{same-fronts, same-nums}
+use Rattle.packed_lists.specs.Laws.Spelled.{AreAlike, one-each, same-each}
+use Rattle.packed_lists.specs.Laws.Fronts.{same-fronts, same-nums}
 use Rattle.column_block.proofs.Halved.{joined as halves-joined}
 use Rattle.column_block.proofs.Presences.{flags-are, length-present, spread-present}
 use Rattle.column_block.proofs.TextTables.{in-each, each-of, each-append, same-table, no-longer, same-ordinals, same-texts, same-many, more-first, same-eight}

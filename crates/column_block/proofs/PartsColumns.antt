@@ -6,15 +6,15 @@ use Rattle.std.specs.Option.{is_some}
 use Rattle.std.proofs.lemmas.List.{length-map, length-append, length-drop, append_assoc}
 use Rattle.fold_law.specs.declared.measures.Parts.{Parts}
 use Rattle.column_block.specs.declared.kinds.Values.TheVariants.{Parts as PartsOf}
-use Rattle.column_block.specs.Nums.{AreNums}
-use Rattle.column_block.specs.Decoded.{ArePlaced, values_at}
+use Rattle.packed_lists.specs.Nums.{AreNums}
+use Rattle.packed_lists.specs.Decoded.{ArePlaced, values_at}
 use Rattle.column_block.specs.HeldParts.{IsPartsColumn, AreListsFound, first_parts, rows_held}
 use Rattle.column_block.specs.Presence.{presence, present, flags_of, flags_in, ones, spread, AreCounts}
 use Rattle.column_block.specs.Rules.{AreParts, Each}
 use Rattle.column_block.specs.Spelling.{Spells, six_lists, high, low}
 use Rattle.column_block.proofs.Aheads.{flags-known, flags-spread, present-spread, presence-size}
-use Rattle.column_block.proofs.Each.{AreAlike, same-each}
-use Rattle.column_block.proofs.Fronts.{take-front, drop-front}
+use Rattle.packed_lists.specs.Laws.Spelled.{AreAlike, same-each}
+use Rattle.packed_lists.specs.Laws.Fronts.{take-front, drop-front}
 use Rattle.column_block.proofs.Presences.{length-presence, flags-are, spread-present, length-present, length-flags, no-ones}
 use Rattle.column_block.proofs.SixLists.{lists-are, first-again}
 

@@ -12,9 +12,9 @@ use Rattle.std.proofs.lemmas.List.FromFn.{length-map-range_with_len, get_or-map-
 use Rattle.std.proofs.Math.Nat.{add-mul-mod_self_left, mod-eq_of_lt, add-mul-div_left, div-eq_of_lt, div-one, mod-one, pow-le-pow_right}
 use Rattle.std.proofs.Math.Seq.{get_or-append_seam, take-append_seam}
 use Rattle.column_pack.specs.Digits.{number, digits, stream, bytes_for}
-use Rattle.column_pack.proofs.Numbers.{number-append, number-lt, length-digits, digits-number, number-digits, digits-below}
-use Rattle.column_pack.proofs.Layouts.{length-stream, number-stream, stream-number}
-use Rattle.column_pack.proofs.StreamBits.{stream-bits}
+use Rattle.column_pack.specs.Laws.Numbers.{number-append, number-lt, length-digits, digits-number, number-digits, digits-below}
+use Rattle.column_pack.specs.Laws.Layouts.{length-stream, number-stream, stream-number}
+use Rattle.column_pack.specs.Laws.StreamBits.{stream-bits}
 use Rattle.column_block.specs.Presence.{bit, presence, flags_of, is_set, flags_in, ones, present, spread}
 
 pub bits-below : (fs : List Bool) → All (λ r. r < 2) (map bit fs)

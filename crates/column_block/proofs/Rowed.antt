@@ -3,15 +3,15 @@ use Rattle.std.proofs.Common.{◌≡◌, ℕ, ℤ, ◌+◌, ◌-◌, ◌<◌, �
 use Rattle.std.specs.List.{All}
 use Rattle.std.proofs.lemmas.List.{length-append, length-drop, length-take-le, append-nil, append_assoc, take-append-drop}
 use Rattle.std.proofs.Math.Seq.{take-add}
-use Rattle.column_block.specs.Nums.{IsNums, AreNums}
-use Rattle.column_block.specs.Decoded.{AreBlocksAt, values_at}
-use Rattle.column_block.specs.Found.{IsFound}
+use Rattle.packed_lists.specs.Nums.{IsNums, AreNums}
+use Rattle.packed_lists.specs.Decoded.{AreBlocksAt, values_at}
+use Rattle.packed_lists.specs.Found.{IsFound}
 use Rattle.column_block.specs.Cutting.{cut, total, IsSize, IsShort, AreStarts, AreRows, lists_at}
 use Rattle.column_block.specs.Rules.{Each}
 use Rattle.column_block.specs.Spelling.{joined, lengths}
-use Rattle.column_block.proofs.Decodes.{values_at-is}
-use Rattle.column_block.proofs.Fronts.{take-front, drop-front}
-use Rattle.column_block.proofs.Placing.{blocks-before}
+use Rattle.packed_lists.specs.Laws.Decodes.{values_at-is}
+use Rattle.packed_lists.specs.Laws.Fronts.{take-front, drop-front}
+use Rattle.packed_lists.specs.Laws.Placing.{blocks-before}
 use Rattle.column_block.proofs.Cuts.{cut-joined, lengths-cut, joined-cut, length-cut, short-cut}
 
 -- lists by what is kept of them

@@ -9,17 +9,17 @@ use Rattle.std.proofs.lemmas.List.Elements.{All-get_or, All-nil, All-append}
 use Rattle.std.proofs.lemmas.List.FromFn.{get_or-map-range_with_len, length-map-range_with_len}
 use Rattle.std.proofs.Math.Seq.{take-add}
 use Rattle.fold_law.specs.declared.measures.Parts.{Parts}
-use Rattle.column_block.specs.Nums.{IsNums, AreNums}
-use Rattle.column_block.specs.Decoded.{IsBlockAt, AreBlocksAt, ArePlaced, values_at}
-use Rattle.column_block.specs.Found.{IsFound}
+use Rattle.packed_lists.specs.Nums.{IsNums, AreNums}
+use Rattle.packed_lists.specs.Decoded.{IsBlockAt, AreBlocksAt, ArePlaced, values_at}
+use Rattle.packed_lists.specs.Found.{IsFound}
 use Rattle.column_block.specs.HeldParts.{BeginsLists, AreListsAhead, number_at, parts_at, first_parts}
 use Rattle.column_block.specs.Rules.{Each}
 use Rattle.column_block.specs.Spelling.{six_lists, high, low, whole_of}
-use Rattle.column_block.proofs.Decodes.{values_at-is}
-use Rattle.column_block.proofs.Each.{nums-push, placed-before, placed-push}
-use Rattle.column_block.proofs.Fronts.{same-nums, nums-fit}
+use Rattle.packed_lists.specs.Laws.Decodes.{values_at-is}
+use Rattle.packed_lists.specs.Laws.Spelled.{nums-push, placed-before, placed-push}
+use Rattle.packed_lists.specs.Laws.Fronts.{same-nums, nums-fit}
 use Rattle.column_block.proofs.Halved.{joined, low-again}
-use Rattle.column_block.proofs.Placing.{places-count, block-range, part-of-block}
+use Rattle.packed_lists.specs.Laws.Placing.{places-count, block-range, part-of-block}
 
 pub each-push : {A : Type 0} (P : A → Type 0) (xs : List A) (x : A) → Each P xs → P x → Each P (xs ++ x ∷ [])
 each-push P [] x h p = (p, tt)

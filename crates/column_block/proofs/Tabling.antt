@@ -17,7 +17,7 @@ use Rattle.column_block.specs.Rules.{Each, IsBefore, IsText, TextsAscend, TextsA
 use Rattle.column_block.specs.Spelling.{IsIn, ordinal, table_bytes, text_bytes}
 use Rattle.column_block.specs.Worded.{AreTexts}
 use Rattle.column_block.proofs.Among.{in-at, each-append}
-use Rattle.column_block.proofs.Fronts.{same-fronts}
+use Rattle.packed_lists.specs.Laws.Fronts.{same-fronts}
 
 -- ---- the order
 

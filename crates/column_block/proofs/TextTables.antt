@@ -12,7 +12,7 @@ use Rattle.std.proofs.lemmas.Nat.{from_be_bytes-to_be_bytes_2, from_be_bytes-to_
 use Rattle.std.proofs.lemmas.Slice.Eq.{bytes_eq-Decides}
 use Rattle.column_block.specs.Rules.{Each, IsBefore, IsText, TextsAscend, TextsAscendAfter}
 use Rattle.column_block.specs.Spelling.{IsIn, ordinal, ordinals, text_bytes}
-use Rattle.column_block.proofs.Fronts.{same-fronts}
+use Rattle.packed_lists.specs.Laws.Fronts.{same-fronts}
 
 -- ---- items of lists
 

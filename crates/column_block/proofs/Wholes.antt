@@ -5,14 +5,14 @@ use Rattle.std.specs.Int.{div_ceil}
 use Rattle.std.specs.Option.{is_some}
 use Rattle.std.proofs.lemmas.List.{length-map, length-append, append-nil, append_assoc}
 use Rattle.column_block.specs.declared.kinds.Values.TheVariants.{Whole}
-use Rattle.column_block.specs.Nums.{IsNums, AreNums}
-use Rattle.column_block.specs.Decoded.{AreBlocksAt, values_at}
+use Rattle.packed_lists.specs.Nums.{IsNums, AreNums}
+use Rattle.packed_lists.specs.Decoded.{AreBlocksAt, values_at}
 use Rattle.column_block.specs.Presence.{presence, present, flags_of, flags_in, ones, spread, AreCounts}
 use Rattle.column_block.specs.Spelling.{Spells}
-use Rattle.column_block.specs.Found.{IsFound}
+use Rattle.packed_lists.specs.Found.{IsFound}
 use Rattle.column_block.specs.Held.{IsWhole}
-use Rattle.column_block.proofs.Decodes.{values_at-is}
-use Rattle.column_block.proofs.Fronts.{drop-front}
+use Rattle.packed_lists.specs.Laws.Decodes.{values_at-is}
+use Rattle.packed_lists.specs.Laws.Fronts.{drop-front}
 use Rattle.column_block.proofs.Presences.{length-presence, flags-are, spread-present, length-present, length-flags, no-ones}
 use Rattle.column_block.proofs.Aheads.{flags-known, flags-spread, present-spread, found-behind, presence-size, range-values, range-flags}
 

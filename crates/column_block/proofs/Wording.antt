@@ -4,14 +4,14 @@ use Rattle.std.specs.Prelude.{slice_range}
 use Rattle.std.proofs.lemmas.List.{append_assoc, length-append, length-map, length-take-le, take-append-drop, take-map, drop-map, take_all}
 use Rattle.column_block.specs.declared.kinds.Values.TheVariants.{Words}
 use Rattle.column_block.specs.Cutting.{Fronted, IsShort, cut, total}
-use Rattle.column_block.specs.Nums.{AreNums}
+use Rattle.packed_lists.specs.Nums.{AreNums}
 use Rattle.column_block.specs.Rules.{Each, IsText, IsTextRow, KeepsRules, TextsAscend}
 use Rattle.column_block.specs.Spelling.{IsIn, IsTableOf, Spells, joined, lengths, ordinal, ordinals, table_bytes}
 use Rattle.column_block.specs.Worded.{AreOrdinals, AreTexts, AreWords, ClimbFrom, HaveSame, texts_at, worded}
 use Rattle.column_block.proofs.Among.{in-either, each-in, each-all, each-range}
 use Rattle.column_block.proofs.Climbing.{joined-map, ordinals-valid, words-back, places-back, text-rows, table-is}
 use Rattle.column_block.proofs.Cuts.{cut-joined, total-lengths}
-use Rattle.column_block.proofs.Fronts.{same-nums, take-front, drop-front}
+use Rattle.packed_lists.specs.Laws.Fronts.{same-nums, take-front, drop-front}
 use Rattle.column_block.proofs.Rowed.{begins-sizes}
 use Rattle.column_block.proofs.Tabling.{table-one}
 

@@ -1,7 +1,7 @@
 -- Lists by their lengths and all their items.
 use Rattle.std.specs.Prelude.{◌≡◌, ℕ, ℤ, pos, ◌≤ℤ◌, ◌+◌, ◌*◌, ◌/◌, ◌<◌, ◌≤◌, ◌^◌, List, [], ◌∷◌, length, take, drop, slice_index, unsigned_abs}
-use Rattle.column_block.specs.Decoded.{AreBlocksAt, values_at}
-use Rattle.column_block.specs.Nums.{AreNums}
+use Rattle.packed_lists.specs.Decoded.{AreBlocksAt, values_at}
+use Rattle.packed_lists.specs.Nums.{AreNums}
 use Rattle.column_block.specs.Rules.{Each}
 use Rattle.column_block.specs.Spelling.{joined, lengths}
 

@@ -1,7 +1,7 @@
 -- What a column keeps beside its bytes.
 use Rattle.std.specs.Prelude.{◌≡◌, ℕ, ℤ, ◌<◌, ◌^◌, List, length, Option}
 use Rattle.column_block.specs.declared.kinds.Values.TheVariants.{Whole}
-use Rattle.column_block.specs.Decoded.{AreBlocksAt}
+use Rattle.packed_lists.specs.Decoded.{AreBlocksAt}
 use Rattle.column_block.specs.Presence.{present, AreCounts}
 use Rattle.column_block.specs.Spelling.{Spells}
 

@@ -3,8 +3,8 @@ use Rattle.std.specs.Prelude.{◌≡◌, ℕ, ℤ, pos, ◌-◌, ◌<◌, ◌≤
 use Rattle.std.specs.List.{range_with_len}
 use Rattle.fold_law.specs.declared.measures.Parts.{Parts}
 use Rattle.column_block.specs.declared.kinds.Values.TheVariants.{Parts as PartsOf}
-use Rattle.column_block.specs.Decoded.{ArePlaced, values_at}
-use Rattle.column_block.specs.Nums.{AreNums}
+use Rattle.packed_lists.specs.Decoded.{ArePlaced, values_at}
+use Rattle.packed_lists.specs.Nums.{AreNums}
 use Rattle.column_block.specs.Presence.{present, ones, flags_in, spread, AreCounts}
 use Rattle.column_block.specs.Rules.{AreParts, Each}
 use Rattle.column_block.specs.Spelling.{Spells, six_lists, whole_of}

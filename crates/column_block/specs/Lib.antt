@@ -1,13 +1,11 @@
-pub mod Nums
 pub mod Presence
 pub mod Rules
 pub mod Spelling
 pub mod Ranges
-pub mod Decoded
-pub mod Found
-pub mod Packed
 pub mod Held
 pub mod Cutting
 pub mod Worded
 pub mod Columned
 pub mod HeldParts
+pub use Rattle.packed_lists.specs.Nums
+pub use Rattle.packed_lists.specs.Decoded

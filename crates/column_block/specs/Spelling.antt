@@ -6,7 +6,7 @@ use Rattle.std.specs.Str.{bytes_eq}
 use Rattle.fold_law.specs.declared.measures.Parts.{Parts}
 use Rattle.column_block.specs.declared.kinds.Values.{Values}
 use Rattle.column_block.specs.declared.kinds.Values.TheVariants.{Whole, Parts as PartsOf, Wholes, Words}
-use Rattle.column_block.specs.Nums.{AreNums}
+use Rattle.packed_lists.specs.Nums.{AreNums}
 use Rattle.column_block.specs.Presence.{presence, present, flags_of}
 use Rattle.column_block.specs.Rules.{TextsAscend}
 

@@ -6,12 +6,12 @@ ghost use Rattle.column_pack.specs.Summary.{IsSummary};
 ghost use Rattle.column_block.specs.Presence.{present};
 ghost use Rattle.column_block.specs.Ranges.{parts_of_one};
 
-use crate::nums::{BLOCK, leave};
 use crate::parts_column::PartsColumn;
 use crate::six_lists::UNREAD;
 use crate::whole::WholeColumn;
 use column_pack::Summary;
 use fold_law::{Fold, Gauge, Parts, fold_all};
+use packed_lists::{BLOCK, leave};
 
 /// A fold with some of a block's parts more.
 fn fold_some<F: Fold<Item = Parts>>(folded: F, parts: &[Parts], from: usize, to: usize) -> F

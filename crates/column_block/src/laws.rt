@@ -1,7 +1,7 @@
 //! Laws of columns.
 ghost use Rattle.std.specs.Prelude.{◌≡◌, ℕ, ℤ, ◌++◌, List, length, All, FitsSigned};
 ghost use Rattle.std.specs.Int.{w64};
-ghost use Rattle.column_block.specs.Nums.{IsNums};
+ghost use Rattle.packed_lists.specs.Nums.{IsNums};
 ghost use Rattle.column_block.specs.Rules.{IsColumnOf, KeepsRules};
 ghost use Rattle.column_block.specs.Spelling.{Spells};
 ghost use Rattle.column_block.specs.declared.kinds.ColumnKind.{ColumnKind};

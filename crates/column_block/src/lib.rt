@@ -8,18 +8,13 @@ mod kinds;
 mod laws;
 mod list_rows;
 mod lists;
-mod number_list;
 mod number_rows;
-mod nums;
 mod ordinals;
 mod parts_column;
 mod presence;
 mod rows;
 mod six_lists;
-mod summaries;
 mod table;
-#[cfg(test)]
-mod tests;
 mod whole;
 mod words;
 
@@ -27,4 +22,3 @@ pub use columns::{Column, ReadColumn};
 pub use halves::{Halves, halves_join, halves_of, join_halves};
 pub use kinds::{ColumnError, ColumnKind, Numbers, Texts, Values};
 pub use laws::{numbers_fit, one_spelling, one_value};
-pub use number_list::{NumberList, ReadNumbers};

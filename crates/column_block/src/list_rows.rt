@@ -1,15 +1,15 @@
 //! Packed lists of whole numbers, a list a row, behind other bytes.
 ghost use Rattle.std.specs.Prelude.{◌≡◌, ℕ, ℤ, ◌<◌, ◌≤◌, ◌^◌, ◌++◌, List, [], ◌∷◌, length, take, drop, slice_range, All, IfOk, Err};
 ghost use Rattle.column_block.specs.Cutting.{IsShort, IsSize, total};
-ghost use Rattle.column_block.specs.Found.{IsFound};
-ghost use Rattle.column_block.specs.Nums.{AreNums, IsNums};
+ghost use Rattle.packed_lists.specs.Found.{IsFound};
+ghost use Rattle.packed_lists.specs.Nums.{AreNums, IsNums};
 ghost use Rattle.column_block.specs.Rules.{Each};
 ghost use Rattle.column_block.specs.Spelling.{joined, lengths};
 
 use crate::kinds::{ColumnError, Numbers};
-use crate::nums::{BLOCK, Found, find_numbers, put_numbers, put_range};
 use crate::rows::{are_sizes, cut_into, join, sizes_of, starts_of, sum_of};
 use edge_face::NoMemory;
+use packed_lists::{BLOCK, Found, find_numbers, put_numbers, put_range};
 use sqlite_items::Items;
 use std::alloc::Global;
 use std::marker::Model;

@@ -1,11 +1,11 @@
 //! Several lists of numbers, one behind the other.
 ghost use Rattle.std.specs.Prelude.{◌≡◌, ℕ, ℤ, ◌+◌, ◌*◌, ◌<◌, ◌≤◌, ◌++◌, List, length, take, drop, slice_range, get_or, IfOk, IfSome, IsNone, OnOk};
-ghost use Rattle.column_block.specs.Nums.{AreNums};
-ghost use Rattle.column_block.specs.Decoded.{ArePlaced, AreBlocksAt};
+ghost use Rattle.packed_lists.specs.Nums.{AreNums};
+ghost use Rattle.packed_lists.specs.Decoded.{ArePlaced, AreBlocksAt};
 
 use crate::kinds::Numbers;
-use crate::nums::put_numbers;
 use edge_face::NoMemory;
+use packed_lists::put_numbers;
 use sqlite_items::Items;
 use std::alloc::Global;
 

@@ -3,6 +3,7 @@ ghost use Rattle.std.specs.Prelude.{◌≡◌, ◌↔◌, ◌⊎◌, ℕ, ◌*�
 ghost use Rattle.column_pack.specs.Digits.{bytes_for, number};
 ghost use Rattle.column_block.specs.Presence.{presence, flags_of, bit, is_set, flags_in, ones, AreCounts, present, spread};
 
+use column_pack::has_spare;
 use edge_face::NoMemory;
 use sqlite_items::Items;
 use std::alloc::Global;
@@ -39,18 +40,6 @@ pub fn put_presence<T>(rows: &[Option<T>], into: &mut Vec<u8>) -> Result<(), NoM
         left = rest;
     }
     Ok(())
-}
-
-/// Whether bytes have a bit set behind so many bits.
-fn has_spare(bytes: &[u8], bits: usize) -> bool
-    requires { length bytes.now ≡ bytes_for bits }
-    ensures { IsTrue result ↔ (2 ^ bits ≤ number 256 bytes.now) }
-{
-    let used = bits % 8;
-    if used == 0 {
-        return false;
-    }
-    bytes[bytes.len() - 1] >> used != 0
 }
 
 /// Whether the bytes begin with bits for so many rows, and with spare bits that are 0.

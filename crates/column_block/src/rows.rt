@@ -1,13 +1,13 @@
 //! Lists of whole numbers, a list a row, behind other bytes.
 ghost use Rattle.std.specs.Prelude.{◌≡◌, ℕ, ℤ, pos, ◌*◌, ◌+◌, ◌<◌, ◌≤◌, ◌≤ℤ◌, ◌^◌, ◌++◌, List, [], ◌∷◌, length, take, drop, map, slice_range, unsigned_abs, All, IfOk, OnOk, Err, IsTrue, ◌↔◌};
 ghost use Rattle.column_block.specs.Cutting.{cut, total, AreStarts, IsShort, IsSize};
-ghost use Rattle.column_block.specs.Nums.{AreNums};
+ghost use Rattle.packed_lists.specs.Nums.{AreNums};
 ghost use Rattle.column_block.specs.Rules.{Each};
 ghost use Rattle.column_block.specs.Spelling.{joined, lengths};
 
 use crate::kinds::Numbers;
-use crate::nums::BLOCK;
 use edge_face::NoMemory;
+use packed_lists::BLOCK;
 use sqlite_items::Items;
 use std::alloc::Global;
 

@@ -1,18 +1,18 @@
 //! Parts as six lists of numbers in packed blocks: minima, maxima, and the halves of sums and of counts.
 ghost use Rattle.std.specs.Prelude.{◌≡◌, ◌↔◌, ℕ, ℤ, pos, ◌*◌, ◌+◌, ◌<◌, ◌≤◌, ◌++◌, List, [], length, take, drop, slice_range, slice_index_or, IfOk, IfSome, IsNone, IsTrue, OnOk};
 ghost use Rattle.fold_law.specs.declared.measures.Parts.{Parts};
-ghost use Rattle.column_block.specs.Decoded.{ArePlaced};
+ghost use Rattle.packed_lists.specs.Decoded.{ArePlaced};
 ghost use Rattle.column_block.specs.HeldParts.{AreListsFound, BeginsLists, number_at};
-ghost use Rattle.column_block.specs.Nums.{AreNums};
+ghost use Rattle.packed_lists.specs.Nums.{AreNums};
 ghost use Rattle.column_block.specs.Rules.{AreParts, Each};
 ghost use Rattle.column_block.specs.Spelling.{high, low, six_lists};
 
 use crate::halves::{Halves, halves_of, join_halves};
 use crate::kinds::Numbers;
 use crate::lists::put_lists;
-use crate::nums::{BLOCK, Found, find_numbers, leave, read_block_of};
 use edge_face::NoMemory;
 use fold_law::Parts;
+use packed_lists::{BLOCK, Found, find_numbers, leave, read_block_of};
 use sqlite_items::Items;
 use std::alloc::Global;
 

@@ -6,13 +6,12 @@ ghost use Rattle.column_block.specs.Spelling.{Spells};
 ghost use Rattle.column_block.specs.Presence.{present};
 
 use crate::kinds::{ColumnError, Values};
-use crate::nums::{Found, find_numbers, put_numbers, put_range, read_block_of};
 use crate::presence::{
     count_before, count_between, count_rows, has_presence, present_of, put_presence, spread_over,
 };
-use crate::summaries::summary_of;
 use column_pack::Summary;
 use edge_face::NoMemory;
+use packed_lists::{Found, find_numbers, put_numbers, put_range, read_block_of, summary_of};
 use sqlite_items::Items;
 use std::alloc::Global;
 use std::marker::Model;
@@ -31,7 +30,7 @@ pub struct WholeColumn {
 
 impl Model for WholeColumn {
     ghost use Rattle.std.specs.Prelude.{List, Option, ℤ};
-    ghost use Rattle.column_block.specs.Decoded.{values_at};
+    ghost use Rattle.packed_lists.specs.Decoded.{values_at};
     ghost use Rattle.column_block.specs.Presence.{flags_in, spread};
     ghost use Rattle.column_block.specs.Held.{IsWhole};
 

@@ -9,7 +9,7 @@ use Rattle.std.proofs.Math.Seq.{take-append-add}
 use Rattle.std.proofs.lemmas.List.{take-take, take_more_set, length-set}
 use Rattle.column_pack.specs.Digits.{number, digits, stream, bytes_for}
 use Rattle.column_pack.specs.Block.{Block, layout, front}
-use Rattle.column_pack.proofs.Numbers.{pow-mul, number-lt, number-more, digits-number, digits-append, digits-low, take-digits}
+use Rattle.column_pack.specs.Laws.Numbers.{pow-mul, number-lt, number-more, digits-number, digits-append, digits-low, take-digits}
 
 low : (n : ℕ) → n % 256 < 256
 low n = mod-lt n (omega arith)

@@ -4,7 +4,7 @@ use Rattle.std.proofs.lemmas.List.Elements.{All-head, All-tail}
 use Rattle.std.proofs.Math.Nat.{add-mul-div_left}
 use Rattle.column_pack.specs.Block.{walk}
 use Rattle.column_pack.specs.Parts.{numbers_of}
-use Rattle.column_pack.proofs.Sums.{sum-cons}
+use Rattle.column_pack.specs.Laws.Sums.{sum-cons}
 
 -- 1 + 2 + .. + n
 below : ℕ → ℕ

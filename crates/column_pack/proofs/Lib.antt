@@ -1,19 +1,8 @@
 pub mod Bytes
 pub mod Divisors
-pub mod Numbers
-pub mod Reduced
-pub mod Walks
-pub mod Words
-pub mod Blocks
-pub mod Sums
-pub mod Checks
 pub mod Spreads
 pub mod Unpacked
 pub mod Flat
-pub mod Layouts
-pub mod Sounds
-pub mod Spans
-pub mod OneList
-pub mod OneBlock
-pub mod StreamBits
 pub mod WholeSums
+mod Leading
+mod Level

@@ -9,9 +9,9 @@ use Rattle.std.proofs.lemmas.List.Elements.{All-head, All-tail}
 use Rattle.std.proofs.lemmas.Nat.Gcd.{dvd-zero}
 use Rattle.column_pack.specs.Block.{rises, falls, rises_after, falls_after}
 use Rattle.column_pack.specs.Factor.{IsDivisor}
-use Rattle.column_pack.specs.Spread.{IsSpread}
-use Rattle.column_pack.proofs.Reduced.{zeros-greatest}
-use Rattle.column_pack.proofs.Sums.{sum-cons}
+use Rattle.column_pack.specs.Spread.{IsSpread, IsMeasure}
+use Rattle.column_pack.specs.Laws.Reduced.{zeros-greatest}
+use Rattle.column_pack.specs.Laws.Sums.{sum-cons}
 
 zeros : (rs : List ℕ) → All (λ r. r < 1) rs → All (λ r. r ≡ 0) rs
 zeros rs h = λ k d l. omega (arith, h k d l)
@@ -20,7 +20,7 @@ zeros-sum : (rs : List ℕ) → All (λ r. r ≡ 0) rs → 0 ≡ sum rs
 zeros-sum [] h = refl
 zeros-sum (r ∷ rs) h = omega (arith, sum-cons r rs, All-head (λ r. r ≡ 0) r rs h, zeros-sum rs (All-tail (λ r. r ≡ 0) r rs h))
 
-zeros-divisor : (rs : List ℕ) → All (λ r. r ≡ 0) rs → IsDivisor 0 rs
+pub zeros-divisor : (rs : List ℕ) → All (λ r. r ≡ 0) rs → IsDivisor 0 rs
 zeros-divisor rs h = record {
   divides = λ k d l. subst (λ z. 0 ∣ z) (sym (h k d l)) (dvd-zero 0);
   greatest = λ times c all. subst (λ z. c ∣ z) (omega-zero times) (dvd-zero c);
@@ -65,3 +65,6 @@ some-length n b e h = let ne : n ≡ 0 → ⊥ = eqb-false n 0 (sym e ∙ not-tr
 
 pub no-length : (n : ℕ) (b : Bool) → b ≡ eqb n 0 → not b ≡ false → n ≡ 0
 no-length n b e h = eqb-true n 0 (sym e ∙ not-false b h)
+
+pub flat-measure : (rs : List ℕ) → All (λ r. r < 1) rs → IsMeasure rs (record { greatest = 0; total = 0 })
+flat-measure rs h = let z = zeros rs h in record { most = sym (zeros-greatest rs z); whole = zeros-sum rs z }

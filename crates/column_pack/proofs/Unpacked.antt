@@ -7,7 +7,7 @@ use Rattle.std.specs.Int.{w64}
 use Rattle.column_pack.specs.Block.{walk, place}
 use Rattle.column_pack.specs.Parts.{numbers_of}
 use Rattle.column_pack.specs.declared.parts.Kind.{Kind}
-use Rattle.column_pack.proofs.Sums.{sum-cons, number-at, length-numbers}
+use Rattle.column_pack.specs.Laws.Sums.{sum-cons, number-at, length-numbers}
 
 pub numbers-more : (o f : ℕ) (rs : List ℕ) (i : ℕ) → i < length rs → numbers_of o f (take (i + 1) rs) ≡ numbers_of o f (take i rs) ++ (o + f * get_or rs i 0) ∷ []
 numbers-more o f rs i h =

@@ -8,10 +8,10 @@ use Rattle.column_pack.specs.Block.{Block, IsBlockOf, place, height, below_top, 
 use Rattle.column_pack.specs.Parts.{numbers_of}
 use Rattle.column_pack.specs.declared.parts.Kind.{Kind}
 use Rattle.column_pack.specs.declared.parts.Kind.TheVariants.{Plain, Rising, Falling}
-use Rattle.column_pack.proofs.Blocks.{height-lt}
-use Rattle.column_pack.proofs.OneList.{values-count}
-use Rattle.column_pack.proofs.Spans.{height-is}
-use Rattle.column_pack.proofs.Sums.{number-at, length-numbers}
+use Rattle.column_pack.specs.Laws.Blocks.{height-lt}
+use Rattle.column_pack.specs.Laws.OneList.{values-count}
+use Rattle.column_pack.specs.Laws.Spans.{height-is}
+use Rattle.column_pack.specs.Laws.Sums.{number-at, length-numbers}
 
 walk-next : (s : ℕ) (ss : List ℕ) (i : ℕ) → i < length ss → get_or (walk s ss) (suc i) 0 ≡ get_or (walk s ss) i 0 + get_or ss i 0
 walk-next s [] i h = absurd (omega arith)

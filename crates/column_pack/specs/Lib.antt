@@ -5,3 +5,7 @@ pub mod Parts
 pub mod Spread
 pub mod Summary
 pub mod Span
+pub mod Known
+pub mod Decoded
+pub mod BlockLaws
+pub mod Laws

@@ -49,7 +49,7 @@ pub fn read_words(bytes: &[u8], words: &mut [u64; 130])
 }
 
 /// The word that fewer than eight bytes begin.
-fn last_word(bytes: &[u8]) -> u64
+pub fn last_word(bytes: &[u8]) -> u64
     requires { length bytes.now < 8 }
     ensures { result ≡ number 256 bytes.now }
 {

@@ -3,6 +3,7 @@
 #![tactic(auto)]
 
 mod bits;
+mod known;
 mod laws;
 mod pack;
 mod parts;
@@ -14,10 +15,9 @@ mod summary;
 mod unpack;
 mod values;
 
+pub use known::{first_known, summary_known, unpack_known};
 pub use laws::{block_len, block_size, one_block, one_list, stream_bits, whole_sums};
 pub use pack::pack_block;
+pub use reading::has_spare;
 pub use summary::{Summary, block_min_max_sum};
 pub use unpack::{BadBlock, unpack_block};
-
-#[cfg(test)]
-mod tests;

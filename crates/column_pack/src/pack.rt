@@ -1,7 +1,7 @@
 //! From values to the bytes of their block.
 
 ghost use Rattle.std.specs.Prelude.{◌≡◌, ◌≢◌, ℕ, ◌+◌, ◌-◌, ◌*◌, ◌/◌, ◌^◌, ◌<◌, ◌≤◌, ◌++◌, List, [], false, length, map, take, drop, slice_index, All, Contains, OnOk, OnErr};
-ghost use Rattle.column_pack.specs.Block.{IsBlock, IsBlockOf, IsCanonical, layout, Fits, walk, falls, start_of, places_of, front};
+ghost use Rattle.column_pack.specs.Block.{IsBlock, IsBlockOf, IsCanonical, layout, Fits, walk, rises, falls, start_of, places_of, front};
 ghost use Rattle.column_pack.specs.Digits.{number, digits, greatest_of};
 ghost use Rattle.column_pack.specs.Factor.{IsGreatestFactor};
 ghost use Rattle.column_pack.specs.Parts.{block_with, IsReduced};
@@ -40,6 +40,10 @@ fn reduce(numbers: &[u64], into: &mut [u64]) -> Reduced
 {
     let least = least(numbers);
     subtract(numbers, least, into);
+    // Equal numbers are the usual case, and need no divisor.
+    if greatest(into) == 0 {
+        return Reduced { least, factor: 1 };
+    }
     let divisor = common_divisor(into);
     if 1 < divisor {
         divide(into, divisor);
@@ -88,7 +92,7 @@ fn describe(values: &[i64], residuals: &mut [u64]) -> Header
     requires some { 0 < length values.now }
     requires few { length values.now ≤ 128 }
     requires same { length residuals.old ≡ length values.now }
-    requires zero { slice_index residuals.old 0 ≡ 0 }
+    requires zero { (k : ℕ) → slice_index residuals.old k ≡ 0 }
     ensures { IsBlockOf values.now (block_with result residuals.new) }
 {
     let count = values.len();
@@ -96,7 +100,7 @@ fn describe(values: &[i64], residuals: &mut [u64]) -> Header
     heights_of(values, &mut places);
     let (rises, falls) = turns(&places[..count]);
     if rises == falls {
-        return describe_plain(&places[..count], residuals);
+        return describe_plain(&places[..count], rises, residuals);
     }
     let first = values[0].cast_unsigned();
     if rises {
@@ -107,15 +111,27 @@ fn describe(values: &[i64], residuals: &mut [u64]) -> Header
     }
 }
 
-/// Heights by how far they are above the least one.
-fn describe_plain(heights: &[u64], residuals: &mut [u64]) -> Header
+/// Heights by how far they are above the least one. `turns` says whether they aren't all equal.
+fn describe_plain(heights: &[u64], turns: bool, residuals: &mut [u64]) -> Header
     requires some { 0 < length heights.now }
     requires few { length heights.now ≤ 128 }
     requires same { length residuals.old ≡ length heights.now }
+    requires zero { (k : ℕ) → slice_index residuals.old k ≡ 0 }
+    requires rises { turns ≡ rises heights.now }
+    requires falls { turns ≡ falls heights.now }
     ensures kind { result.kind ≡ Kind.Plain }
     ensures canonical { IsCanonical (block_with result residuals.new) }
     ensures places { places_of (block_with result residuals.new) ≡ heights.now }
 {
+    if !turns {
+        return Header {
+            kind: Kind::Plain,
+            first: 0,
+            offset: turn(heights[0]),
+            factor: 1,
+            width: 0,
+        };
+    }
     let reduced = reduce(heights, residuals);
     let width = width_of(greatest(residuals));
     Header {
@@ -195,10 +211,14 @@ fn append(header: &Header, residuals: &[u64], into: &mut Vec<u8>) -> Result<(), 
     ensures ok { OnOk result (into.new.items ≡ into.old.items ++ layout (block_with header.now residuals.now)) }
     ensures err { OnErr result (into.new.items ≡ into.old.items) }
 {
-    let mut words = [0u64; 130];
-    let count = write_words(residuals, header.width, &mut words);
     let mut bytes = [0u8; 1067];
     put_front(header, residuals.len() as u8, &mut bytes);
+    if header.width == 0 {
+        into.extend_from_slice(&bytes[..27])?;
+        return Ok(());
+    }
+    let mut words = [0u64; 130];
+    let count = write_words(residuals, header.width, &mut words);
     put_words(&words[..count], &mut bytes);
     let len = 27 + (residuals.len() * header.width as usize).div_ceil(8);
     into.extend_from_slice(&bytes[..len])?;

@@ -76,7 +76,7 @@ pub fn parse(bytes: &[u8]) -> Option<(Header, usize)>
     Some((header, count))
 }
 
-fn word_at(bytes: &[u8], at: usize) -> u64
+pub fn word_at(bytes: &[u8], at: usize) -> u64
     requires { at + 8 ≤ length bytes.now }
     ensures { result ≡ from_be_bytes w64 (take 8 (drop at bytes.now)) }
 {
@@ -88,7 +88,7 @@ fn word_at(bytes: &[u8], at: usize) -> u64
 }
 
 /// Whether bytes have a bit set behind so many bits.
-fn has_spare(bytes: &[u8], bits: usize) -> bool
+pub fn has_spare(bytes: &[u8], bits: usize) -> bool
     requires { length bytes.now ≡ bytes_for bits }
     ensures { IsTrue result ↔ (2 ^ bits ≤ number 256 bytes.now) }
 {

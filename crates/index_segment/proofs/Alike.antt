@@ -4,7 +4,7 @@ use Rattle.std.proofs.Common.{ap, sym, ◌∙◌}
 use Rattle.row_cells.specs.declared.schemas.Schema.{Schema}
 use Rattle.row_cells.specs.declared.rows.Row.{Row}
 use Rattle.column_block.specs.declared.kinds.Values.{Values}
-use Rattle.column_block.specs.Nums.{IsNums}
+use Rattle.packed_lists.specs.Nums.{IsNums}
 use Rattle.column_block.specs.Spelling.{Spells}
 use Rattle.index_segment.specs.Columns.{columns_of}
 use Rattle.index_segment.specs.Directory.{keys_of, sizes_of}

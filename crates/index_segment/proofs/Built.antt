@@ -10,7 +10,7 @@ use Rattle.index_segment.specs.Columns.{columns_from, columns_of}
 use Rattle.index_segment.specs.Directory.{keys_of, sizes_of, starts_from}
 use Rattle.index_segment.specs.Forms.{forms_of}
 use Rattle.index_segment.specs.Held.{Held, Packs, rows_held}
-use Rattle.index_segment.specs.Rows.{AreRowsOf}
+use Rattle.row_cells.specs.KeyedRows.{AreRowsOf}
 use Rattle.index_segment.specs.Spelling.{counted, counts_of, times_of}
 use Rattle.index_segment.proofs.HeldRows.{held_rows}
 

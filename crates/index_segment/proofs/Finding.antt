@@ -21,7 +21,6 @@ use Rattle.index_segment.specs.Directory.{row_keys}
 use Rattle.index_segment.specs.Looks.{is_at}
 use Rattle.index_segment.specs.Order.{NoneIs, Stands}
 use Rattle.index_segment.specs.Spelling.{times_of}
-use Rattle.index_segment.proofs.Cuts.{doubled}
 use Rattle.index_segment.proofs.Runs.{bytes_eq_itself, bytes_eq_other}
 use Rattle.index_segment.proofs.Scanned.{falling, key_at, row_at, time_at}
 
@@ -117,8 +116,8 @@ module _ (rows : List Row) (key : List ℕ) (time : ℤ) (a b c : ℕ) (in_order
 
 -- ---- steps
 
-pub one_more : (new old start n : ℕ) → start ≤ old → new ≡ old + 1 → 2 ^ (old - start) ≤ 2 * max 1 n → 1 ≤ n → 2 ^ (new - start) ≤ 4 * n
-one_more new old start n below is cost some = omega (arith, doubled new old start below is, cost, some)
+pub within_four : (q n : ℕ) → q ≤ 4 * max 1 n → 1 ≤ n → q ≤ 4 * n
+within_four q n cost some = omega (arith, cost, some)
 
 -- ---- in the times of a segment
 
@@ -134,5 +133,5 @@ module _ (schema : Schema) (rows : List Row) (keys : List (List ℕ)) (starts : 
       (λ k x y. subst (λ ts. get_or ts k (pos 0) <ℤ time) t (below k x y))
       (λ some same. other some (ap (λ ts. get_or ts (c - 1) (pos 0)) t ∙ same)))
 
-  pub find_cost : (new old start : ℕ) → start ≤ old → new ≡ old + 1 → 2 ^ (old - start) ≤ 2 * max 1 (div_ceil (length times) 128) → 1 ≤ div_ceil (length rows) 128 → 2 ^ (new - start) ≤ 4 * div_ceil (length rows) 128
-  find_cost new old start below is cost some = one_more new old start (div_ceil (length rows) 128) below is (subst (λ n. 2 ^ (old - start) ≤ 2 * max 1 (div_ceil n 128)) (times_long schema rows keys starts sizes times counts columns p) cost) some
+  pub find_cost : (q : ℕ) → q ≤ 4 * max 1 (div_ceil (length times) 128) → 1 ≤ div_ceil (length rows) 128 → q ≤ 4 * div_ceil (length rows) 128
+  find_cost q cost some = within_four q (div_ceil (length rows) 128) (subst (λ n. q ≤ 4 * max 1 (div_ceil n 128)) (times_long schema rows keys starts sizes times counts columns p) cost) some

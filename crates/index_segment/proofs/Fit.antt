@@ -10,7 +10,7 @@ use Rattle.row_cells.specs.declared.rows.Cell.{Cell}
 use Rattle.row_cells.specs.declared.rows.Row.{Row}
 use Rattle.row_cells.specs.Fitting.{CellFits, CellsFit}
 use Rattle.index_segment.specs.Columns.{cell_at, cell_or_absent}
-use Rattle.index_segment.specs.Rows.{IsRowOf, IsShortList}
+use Rattle.row_cells.specs.KeyedRows.{IsRowOf, IsShortList}
 
 pub record Split (folded rises : Bool) (n : ℕ) (f : Field) (fs : List Field) (place : ℕ) (cells : List Cell) : Type 0 where
   pub here : CellFits folded rises f.kind f.role n (cell_or_absent (slice_get cells place))

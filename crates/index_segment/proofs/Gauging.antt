@@ -29,7 +29,7 @@ use Rattle.index_segment.specs.Cells.{whole_in, parts_in}
 use Rattle.index_segment.specs.Columns.{cell_at, columns_from, columns_of, columns_of_cells}
 use Rattle.index_segment.specs.Forms.{form_of, forms_of, gauge_form, width_of, widths}
 use Rattle.index_segment.specs.Looks.{IsGaugeAt, gauge_at, gauge_of}
-use Rattle.index_segment.specs.Rows.{AreRowsOf, IsRowOf}
+use Rattle.row_cells.specs.KeyedRows.{AreRowsOf, IsRowOf}
 use Rattle.index_segment.proofs.Fit.{FitFrom, FitHere, rows_here, rows_behind, rows_first}
 use Rattle.index_segment.proofs.Restored.{behind, width_is}
 use Rattle.index_segment.proofs.Scanned.{range_two, take_map}

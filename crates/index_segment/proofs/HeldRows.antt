@@ -16,14 +16,14 @@ use Rattle.row_cells.specs.Dimensions as dimension
 use Rattle.row_cells.specs.Dimensions.{key_bytes, AreDimensionsAfter}
 use Rattle.row_cells.specs.Fitting.{CellFits, CellsFit, FieldsAscendAfter, dimensions_of, with_dimension}
 use Rattle.row_cells.specs.Mapped.{IsMapped}
-use Rattle.series_id.specs.KeyedLaws.{AreSpellable, IsSpellable, cells_spellable, dimensions_ascend}
+use Rattle.row_cells.specs.KeyedLaws.{AreSpellable, IsSpellable, cells_spellable, dimensions_ascend}
 use Rattle.index_segment.specs.Columns.{columns_of}
 use Rattle.index_segment.specs.Directory.{Run, run_of, with_key, runs_of, row_keys, keys_of, sizes_of, spread}
 use Rattle.index_segment.specs.declared.forms.Form.{Form}
 use Rattle.index_segment.specs.Forms.{form_of, forms_of}
 use Rattle.index_segment.specs.Heads.{entry_at, head_of, rest_of, heads_in}
 use Rattle.index_segment.specs.Held.{plain, row_from, rows_from, rows_held}
-use Rattle.index_segment.specs.Rows.{AreRowsOf, IsRowOf}
+use Rattle.row_cells.specs.KeyedRows.{AreRowsOf, IsRowOf}
 use Rattle.index_segment.specs.Spelling.{counted, counts_of, times_of}
 use Rattle.index_segment.proofs.Entries.{entry_none, entry_read}
 use Rattle.index_segment.proofs.Kept.{kept}

@@ -11,12 +11,12 @@ use Rattle.row_cells.specs.declared.rows.Cell.{Cell}
 use Rattle.row_cells.specs.declared.rows.Row.{Row}
 use Rattle.row_cells.specs.Dimensions.{IsKey, text_bytes}
 use Rattle.row_cells.specs.Mapped.{IsMapped}
-use Rattle.series_id.specs.KeyedLaws.{series_is_key}
+use Rattle.row_cells.specs.KeyedLaws.{series_is_key}
 use Rattle.column_block.specs.declared.kinds.ColumnKind.{ColumnKind}
 use Rattle.column_block.specs.declared.kinds.ColumnKind.TheVariants as kinds
 use Rattle.column_block.specs.declared.kinds.Values.{Values}
 use Rattle.column_block.specs.declared.kinds.Values.TheVariants as values
-use Rattle.column_block.specs.Nums.{IsNums}
+use Rattle.packed_lists.specs.Nums.{IsNums}
 use Rattle.column_block.specs.Rules.{IsColumnOf, KeepsRules, kind_of, rows_of}
 use Rattle.index_segment.specs.declared.forms.Form.{Form}
 use Rattle.index_segment.specs.declared.forms.Form.TheVariants.{Bare, Whole, Parts, Rise, Numbers, Flags, Words}
@@ -25,7 +25,7 @@ use Rattle.index_segment.specs.Columns.{ArePackable, cell_at, columns_from, colu
 use Rattle.index_segment.specs.Directory.{Run, run_of, with_key, runs_of, row_keys, keys_of, sizes_of}
 use Rattle.index_segment.specs.Forms.{forms_of}
 use Rattle.index_segment.specs.Parts.{AreColumnsOf, form_kinds, kinds_of}
-use Rattle.index_segment.specs.Rows.{AreRowsOf, IsRowOf}
+use Rattle.row_cells.specs.KeyedRows.{AreRowsOf, IsRowOf}
 use Rattle.index_segment.specs.Spelling.{AreColumns, IsSegmentOf, counted, counts_of, mark, times_of}
 use Rattle.index_segment.proofs.Packable.{rows_packable, rows_short}
 use Rattle.index_segment.proofs.Places.{sizes_long}

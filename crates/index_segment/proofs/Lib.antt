@@ -1,7 +1,6 @@
 mod Alike
 mod Built
 mod Chained
-mod Cuts
 mod Entries
 mod Finding
 mod Fit

@@ -13,7 +13,7 @@ use Rattle.index_segment.specs.Directory.{Run, runs_of, row_keys, keys_of, sizes
 use Rattle.index_segment.specs.Held.{Held, Packs}
 use Rattle.index_segment.specs.Joining.{keys_of_joints, rows_of_joints}
 use Rattle.index_segment.specs.Merging.{AreApart, Joint, Side, firsts, joined_series, joint_sizes, listed, picked, picked_columns, seconds, sides_of_series}
-use Rattle.index_segment.specs.Rows.{AreRowsOf, IsRowOf}
+use Rattle.row_cells.specs.KeyedRows.{AreRowsOf, IsRowOf}
 use Rattle.index_segment.specs.Spelling.{counted, counts_of, times_of}
 use Rattle.index_segment.proofs.Fit.{rows_few}
 use Rattle.index_segment.proofs.Merged.{apart_differ, merged, merged_documents, merged_each, merged_in_order, merged_sorted}

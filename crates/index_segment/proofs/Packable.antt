@@ -28,7 +28,7 @@ use Rattle.index_segment.specs.Cells.{whole_in, parts_in, first_in, last_in, hig
 use Rattle.index_segment.specs.declared.forms.Form.TheVariants as forms
 use Rattle.index_segment.specs.Columns.{ArePackable, cell_at, columns_from, columns_of_cells}
 use Rattle.index_segment.specs.Forms.{form_of, forms_of, gauge_form, counter_form, label_form}
-use Rattle.index_segment.specs.Rows.{AreRowsOf, IsRowOf, IsShortList}
+use Rattle.row_cells.specs.KeyedRows.{AreRowsOf, IsRowOf, IsShortList}
 use Rattle.index_segment.proofs.Fit.{FitFrom, FitHere, rows_here, rows_behind, rows_first, rows_few}
 
 -- ---- parts

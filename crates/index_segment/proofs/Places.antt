@@ -17,7 +17,8 @@ use Rattle.index_segment.specs.Forms.{form_of, forms_of}
 use Rattle.index_segment.specs.Heads.{entry_at, heads_in, rest_of}
 use Rattle.index_segment.specs.Held.{Packs, series_rows}
 use Rattle.index_segment.specs.Looks.{IsRange, rows_within}
-use Rattle.index_segment.specs.Order.{Ascend, Fall, NoneIs, Stands}
+use Rattle.packed_lists.specs.Falling.{Fall}
+use Rattle.index_segment.specs.Order.{Ascend, NoneIs, Stands}
 use Rattle.index_segment.specs.Spelling.{counts_of, times_of}
 use Rattle.index_segment.proofs.HeldRows.{spread_rows}
 use Rattle.index_segment.proofs.Packable.{rows_short}

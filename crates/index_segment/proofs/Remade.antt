@@ -18,7 +18,7 @@ use Rattle.index_segment.specs.Heads.{heads_in}
 use Rattle.index_segment.specs.Held.{series_rows}
 use Rattle.index_segment.specs.Order.{Stands}
 use Rattle.index_segment.specs.Parts.{HaveParts}
-use Rattle.index_segment.specs.Rows.{AreRowsOf}
+use Rattle.row_cells.specs.KeyedRows.{AreRowsOf}
 use Rattle.index_segment.specs.Spelling.{counted, counts_of, times_of}
 use Rattle.index_segment.proofs.HeldRows.{spread_rows}
 use Rattle.index_segment.proofs.Packable.{rows_short}

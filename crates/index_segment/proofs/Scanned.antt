@@ -27,8 +27,9 @@ use Rattle.index_segment.specs.Forms.{forms_of}
 use Rattle.index_segment.specs.Heads.{heads_in}
 use Rattle.index_segment.specs.Held.{row_from, series_rows}
 use Rattle.index_segment.specs.Looks.{is_within, rows_within}
-use Rattle.index_segment.specs.Order.{Fall, NoneIs, Stands}
-use Rattle.index_segment.specs.Rows.{IsRowOf}
+use Rattle.packed_lists.specs.Falling.{Fall}
+use Rattle.index_segment.specs.Order.{NoneIs, Stands}
+use Rattle.row_cells.specs.KeyedRows.{IsRowOf}
 use Rattle.index_segment.specs.Spelling.{counts_of, times_of}
 use Rattle.index_segment.proofs.HeldRows.{row_back}
 use Rattle.index_segment.proofs.Restored.{behind}

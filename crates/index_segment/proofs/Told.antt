@@ -12,7 +12,7 @@ use Rattle.row_cells.specs.KeyLaws.{same_back, same_front, text_bytes_injective}
 use Rattle.row_cells.specs.Mapped.{IsMapped}
 use Rattle.column_block.specs.declared.kinds.ColumnKind.{ColumnKind}
 use Rattle.column_block.specs.declared.kinds.Values.{Values}
-use Rattle.column_block.specs.Nums.{IsNums}
+use Rattle.packed_lists.specs.Nums.{IsNums}
 use Rattle.column_block.specs.Rules.{IsColumnOf}
 use Rattle.column_block.specs.Spelling.{Spells}
 use Rattle.index_segment.specs.Columns.{columns_of}

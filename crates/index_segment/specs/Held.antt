@@ -10,7 +10,7 @@ use Rattle.index_segment.specs.Columns.{cells_from, columns_of}
 use Rattle.index_segment.specs.Directory.{keys_of, sizes_of, spread, starts_from}
 use Rattle.index_segment.specs.Forms.{forms_of}
 use Rattle.index_segment.specs.Heads.{heads_in}
-use Rattle.index_segment.specs.Rows.{AreRowsOf}
+use Rattle.row_cells.specs.KeyedRows.{AreRowsOf}
 use Rattle.index_segment.specs.Spelling.{counted, times_of, counts_of}
 
 -- a schema and rows

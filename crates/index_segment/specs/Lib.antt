@@ -10,7 +10,6 @@ pub mod Merging
 pub mod Order
 pub mod Parts
 pub mod Rows
-pub mod Samples
 pub mod Spelling
 pub mod Texts
 pub mod Turns

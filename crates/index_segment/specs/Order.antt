@@ -15,14 +15,6 @@ AreBehind before (row ∷ rows) = (row_cmp before row ≡ Less) × AreBehind row
 abbrev pub Ascend : List (List ℕ) → Type 0
 Ascend keys = (i j : ℕ) → i < j → j < length keys → slice_cmp nat_cmp (slice_index_or keys i []) (slice_index_or keys j []) ≡ Less
 
--- the times from one place up to another fall
-abbrev pub Fall : List ℤ → ℕ → ℕ → Type 0
-Fall times from to = (i j : ℕ) → from ≤ i → i < j → j < to → slice_index_or times j (pos 0) <ℤ slice_index_or times i (pos 0)
-
--- in how many blocks of 128 the places from one up to another lie
-abbrev pub block_count : ℕ → ℕ → ℕ
-block_count from to = (to - 1) / 128 + 1 - from / 128
-
 -- rows from one place up to another have the key, and no others do
 pub record Stands (keys : List (List ℕ)) (key : List ℕ) (a b : ℕ) : Type 0 where
   pub ordered : a ≤ b

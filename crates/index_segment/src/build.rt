@@ -8,8 +8,9 @@ ghost use Rattle.index_segment.specs.Spelling as lists;
 
 use crate::forms::Form;
 use crate::gather::{Number, gather_lists, gather_numbers, gather_parts, gather_texts};
-use column_block::{Column, NumberList, Values};
+use column_block::{Column, Values};
 use edge_face::NoMemory;
+use packed_lists::NumberList;
 use row_cells::Row;
 use sqlite_items::Items;
 use std::alloc::Global;

@@ -4,7 +4,8 @@ ghost use Rattle.row_cells.specs.Mapped.{AreCellsOf, IsMapped};
 ghost use Rattle.row_cells.specs.Each.{Each};
 ghost use Rattle.row_cells.specs.RowLists.{AreInRowOrder, documents};
 ghost use Rattle.index_segment.specs.Order.{AreBehind};
-ghost use Rattle.index_segment.specs.Rows.{AreRowsOf, HasOwnKey, IsCounted, IsRowOf, IsShortList};
+ghost use Rattle.row_cells.specs.KeyedRows.{AreRowsOf, IsRowOf, IsShortList};
+ghost use Rattle.index_segment.specs.Rows.{HasOwnKey, IsCounted};
 
 use edge_face::NoMemory;
 use row_cells::{Cell, Row, Schema, fit_cells, row_order};

@@ -3,7 +3,6 @@
 
 mod build;
 mod check;
-mod cut;
 mod directory;
 mod forms;
 mod gather;
@@ -20,13 +19,10 @@ mod restore;
 mod scan;
 mod segment;
 mod shares;
-mod steps;
-#[cfg(test)]
-mod tests;
 mod texts;
 mod turns;
 mod write;
 
 pub use laws::bytes_tell_rows;
+pub use packed_lists::Steps;
 pub use segment::{Segment, SegmentError};
-pub use steps::Steps;

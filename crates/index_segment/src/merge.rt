@@ -6,8 +6,9 @@ use crate::pick::{pick_columns, pick_numbers};
 use crate::segment::Segment;
 use crate::shares::{Listed, directory_of_joined, join_series};
 use crate::turns::turns_of;
-use column_block::{NumberList, Numbers};
+use column_block::Numbers;
 use edge_face::NoMemory;
+use packed_lists::NumberList;
 use row_cells::copy_schema;
 use std::alloc::Global;
 
@@ -16,7 +17,7 @@ fn numbers_of(alloc: Global, list: &NumberList) -> Result<Numbers, NoMemory>
     ensures { IfOk result (λ numbers. numbers ≡ list.now) }
 {
     let numbers = list.values(alloc, 0, list.len())?;
-    Ok(numbers)
+    Ok(Numbers::new(numbers))
 }
 
 impl Segment {

@@ -9,8 +9,9 @@ ghost use Rattle.index_segment.specs.Spelling.{IsSegmentOf};
 
 use crate::forms::Form;
 use crate::pieces::{read_columns, read_head, read_keys, read_numbers};
-use column_block::{Column, ColumnKind, NumberList};
+use column_block::{Column, ColumnKind};
 use edge_face::NoMemory;
+use packed_lists::NumberList;
 use row_cells::{Key, Row, Schema};
 use sqlite_items::Items;
 use std::alloc::Global;

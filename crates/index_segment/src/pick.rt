@@ -5,8 +5,9 @@ ghost use Rattle.index_segment.specs.Columns.{ArePackable};
 ghost use Rattle.index_segment.specs.Merging.{picked, picked_columns, picked_values, sides};
 
 use crate::shares::Counts;
-use column_block::{Column, NumberList, Values};
+use column_block::{Column, Values};
 use edge_face::NoMemory;
+use packed_lists::NumberList;
 use sqlite_items::Items;
 use std::alloc::Global;
 

@@ -4,7 +4,7 @@ ghost use Rattle.std.specs.Int.{w32, to_be_bytes};
 ghost use Rattle.std.specs.List.{flat_map};
 ghost use Rattle.row_cells.specs.Dimensions.{IsKey, text_bytes};
 ghost use Rattle.row_cells.specs.Each.{Each};
-ghost use Rattle.column_block.specs.Nums.{IsNums};
+ghost use Rattle.packed_lists.specs.Nums.{IsNums};
 ghost use Rattle.column_block.specs.Rules.{IsColumnOf};
 ghost use Rattle.column_block.specs.Spelling.{Spells};
 ghost use Rattle.column_block.specs.declared.kinds.Values.{Values};
@@ -12,8 +12,9 @@ ghost use Rattle.index_segment.specs.Parts.{AreColumnsOf};
 ghost use Rattle.index_segment.specs.Spelling.{AreColumns, mark};
 
 use crate::texts::read_text;
-use column_block::{Column, ColumnError, ColumnKind, NumberList, one_value};
+use column_block::{Column, ColumnError, ColumnKind, one_value};
 use edge_face::NoMemory;
+use packed_lists::NumberList;
 use row_cells::Key;
 use sqlite_items::Items;
 use std::alloc::Global;
@@ -120,18 +121,15 @@ pub fn read_numbers(
         IsNums numbers spelling → bytes.now ≡ spelling ++ rest →
         IsSomeAnd found (λ read. (read.numbers ≡ numbers) × (read.rest.now ≡ rest))) }
 {
-    one_value();
-    match NumberList::read(alloc, count, bytes) {
-        Ok(read) => {
-            let (_, rest) = bytes.split_at(read.used as usize);
-            Ok(Some(NumbersAt {
-                numbers: read.numbers,
-                rest,
-            }))
-        }
-        Err(ColumnError::BadColumn) => Ok(None),
-        Err(ColumnError::NoMemory) => Err(NoMemory),
-    }
+    let found = NumberList::read(alloc, count as usize, bytes)?;
+    let Some(read) = found else {
+        return Ok(None);
+    };
+    let (_, rest) = bytes.split_at(read.used);
+    Ok(Some(NumbersAt {
+        numbers: read.numbers,
+        rest,
+    }))
 }
 
 /// A column, and what follows it.

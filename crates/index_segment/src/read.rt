@@ -3,7 +3,7 @@ ghost use Rattle.std.specs.Prelude.{◌≡◌, List, IfOk, IfSome, IsSomeAnd, So
 ghost use Rattle.std.specs.Str.{bytes_eq};
 ghost use Rattle.row_cells.specs.Mapped.{IsMapped};
 ghost use Rattle.row_cells.specs.declared.rows.Row.{Row};
-ghost use Rattle.index_segment.specs.Rows.{AreRowsOf};
+ghost use Rattle.row_cells.specs.KeyedRows.{AreRowsOf};
 ghost use Rattle.index_segment.specs.Spelling.{IsSegmentOf};
 
 use crate::check::are_rows;

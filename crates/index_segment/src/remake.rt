@@ -5,7 +5,7 @@ ghost use Rattle.row_cells.specs.declared.rows.Row.{Row};
 ghost use Rattle.index_segment.specs.Directory.{sizes_of, total};
 ghost use Rattle.index_segment.specs.Forms as spec;
 ghost use Rattle.index_segment.specs.Parts.{HaveParts};
-ghost use Rattle.index_segment.specs.Rows.{AreRowsOf};
+ghost use Rattle.row_cells.specs.KeyedRows.{AreRowsOf};
 
 use crate::forms::Form;
 use crate::heads::heads_of;

@@ -5,18 +5,17 @@ ghost use Rattle.std.specs.Option.{option_copied};
 ghost use Rattle.row_cells.specs.Mapped.{IsMapped};
 
 use crate::build::{pack_columns, pack_counts, pack_times};
-use crate::cut::{cut_at, cut_freely};
 use crate::directory::{Directory, directory_of};
 use crate::forms::{columns_before, forms_of};
 use crate::heads::heads_of;
 use crate::lookup::{place_behind, place_of};
 use crate::read::{are_same, rows_in};
 use crate::scan::{Series, pull, rows_of_series};
-use crate::steps::Steps;
 use crate::write::{put_columns, put_front};
-use column_block::{Column, NumberList, one_spelling};
+use column_block::{Column, one_spelling};
 use edge_face::{Bytes, NoMemory};
 use fold_law::Gauge;
+use packed_lists::{NumberList, Steps};
 use row_cells::{Key, Row, Schema, copy_schema};
 use sqlite_items::{Items, at};
 use std::alloc::Global;
@@ -84,7 +83,7 @@ impl Segment {
     ghost use Rattle.index_segment.specs.Directory.{keys_of, row_keys};
     ghost use Rattle.index_segment.specs.Looks.{IsGaugeAt, IsRange, first_behind, gauge_of, is_at, rows_within};
     ghost use Rattle.index_segment.specs.Order.{NoneIs, Stands};
-    ghost use Rattle.index_segment.specs.Rows.{AreRowsOf};
+    ghost use Rattle.row_cells.specs.KeyedRows.{AreRowsOf};
     ghost use Rattle.index_segment.specs.Spelling.{IsSegmentOf, IsFront, AreColumns};
 
     /// Packs rows of the schema in row order, no two of one series and time: at most 16,777,216 documents, and at most
@@ -192,8 +191,9 @@ impl Segment {
         ensures none { IsNone result → rows_within key.now from to self.now.rows ≡ [] }
     {
         let series = self.series(key)?;
-        let first = cut_freely(&self.times, series.first, series.last, to);
-        let last = cut_freely(&self.times, first, series.last, from);
+        let mut times = self.times.cursor();
+        let first = times.cut(series.first, series.last, to);
+        let last = times.cut(first, series.last, from);
         Some(Range { first, last })
     }
 
@@ -244,8 +244,8 @@ impl Segment {
     }
 
     /// The place among the segment's rows, from 0 on, of the row of a series and a time in milliseconds since 1970, or
-    /// None exactly where there is none. Each block of times that is read is a step: they are at most as many as the
-    /// number of blocks has binary digits, and one.
+    /// None exactly where there is none. Each block of times of which the header or the numbers are read is a step: they
+    /// are at most as many as the number of blocks has binary digits, and one.
     pub fn find<L: Ledger>(&self, key: &Key, time: i64, steps: &mut Steps<L>) -> Option<u64>
         ensures found { result ≡ position (is_at key.now time) self.now.rows }
         ensures cost { let blocks = div_ceil (length self.now.rows) 128 in
@@ -253,13 +253,14 @@ impl Segment {
         ensures counted { steps.old ≤ steps.new }
     {
         let series = self.series(key)?;
-        let place = cut_at(&self.times, series.first, series.last, time, steps);
+        let mut times = self.times.cursor();
+        let place = times.cut_at(series.first, series.last, time, steps);
         if place == series.first {
             return None;
         }
-        steps.tick();
         let last = place - 1;
-        if self.times.at(last) == time {
+        // The cut left the block of this row unpacked, so nothing more is read.
+        if times.at(last) == time {
             Some(last as u64)
         } else {
             None

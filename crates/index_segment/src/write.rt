@@ -4,8 +4,9 @@ ghost use Rattle.std.specs.List.{flat_map};
 ghost use Rattle.row_cells.specs.Dimensions.{text_bytes};
 ghost use Rattle.index_segment.specs.Spelling.{AreColumns, IsFrontOf, head_bytes};
 
-use column_block::{Column, NumberList};
+use column_block::Column;
 use edge_face::NoMemory;
+use packed_lists::NumberList;
 use row_cells::Key;
 
 fn put_key(key: &Key, into: &mut Vec<u8>) -> Result<(), NoMemory>

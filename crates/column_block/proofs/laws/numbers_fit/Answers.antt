@@ -1,4 +1,4 @@
-use Rattle.column_block.proofs.Fronts.{nums-fit}
+use Rattle.packed_lists.specs.Laws.Fronts.{nums-fit}
 use Rattle.column_block.proofs.laws.numbers_fit.Goals as goal
 
 pub returns : goal.returns

@@ -1,4 +1,4 @@
-use Rattle.column_block.proofs.Fronts.{one-nums}
+use Rattle.packed_lists.specs.Laws.Fronts.{one-nums}
 use Rattle.column_block.proofs.OneColumn.{one-column}
 use Rattle.column_block.proofs.laws.one_spelling.Goals as goal
 

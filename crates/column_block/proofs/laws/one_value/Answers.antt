@@ -1,4 +1,4 @@
-use Rattle.column_block.proofs.Fronts.{same-nums}
+use Rattle.packed_lists.specs.Laws.Fronts.{same-nums}
 use Rattle.column_block.proofs.OneColumn.{one-value}
 use Rattle.column_block.proofs.laws.one_value.Goals as goal
 

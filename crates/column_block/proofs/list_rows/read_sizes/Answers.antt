@@ -2,8 +2,8 @@ use Rattle.std.proofs.Common.{◌≡◌, ◌∙◌, ap, sym, subst, arith, lengt
 use Rattle.std.specs.List.{All}
 use Rattle.std.proofs.lemmas.Bool.{false≢true}
 use Rattle.column_block.specs.Cutting.{IsSize}
-use Rattle.column_block.specs.Found.{IsFound}
-use Rattle.column_block.proofs.Founds.{found-places, whole-range, found-one}
+use Rattle.packed_lists.specs.Found.{IsFound}
+use Rattle.packed_lists.specs.Laws.Founds.{found-places, whole-range, found-one}
 use Rattle.column_block.proofs.list_rows.read_sizes.Goals as goal
 
 pub put_range-requires : goal.put_range-requires

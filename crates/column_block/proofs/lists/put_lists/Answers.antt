@@ -1,7 +1,7 @@
 use Rattle.std.proofs.Common.{◌≡◌, ◌++◌, List, ℕ}
-use Rattle.column_block.specs.Nums.{IsNums}
-use Rattle.column_block.specs.Decoded.{AreBlocksAt}
-use Rattle.column_block.proofs.Each.{spelled-more, placed-more}
+use Rattle.packed_lists.specs.Nums.{IsNums}
+use Rattle.packed_lists.specs.Decoded.{AreBlocksAt}
+use Rattle.packed_lists.specs.Laws.Spelled.{spelled-more, placed-more}
 use Rattle.column_block.proofs.lists.put_lists.Goals as goal
 
 pub loop-list-preserved : goal.loop-list-preserved

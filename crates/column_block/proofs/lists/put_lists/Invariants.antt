@@ -1,6 +1,6 @@
 use Rattle.std.proofs.Common.{◌≡◌, ◌++◌, ℕ, List, take}
-use Rattle.column_block.specs.Nums.{AreNums}
-use Rattle.column_block.specs.Decoded.{ArePlaced}
+use Rattle.packed_lists.specs.Nums.{AreNums}
+use Rattle.packed_lists.specs.Decoded.{ArePlaced}
 use Rattle.column_block.proofs.lists.put_lists.Given as goal
 
 abbrev pub invariant-loop-list : goal.invariant-loop-list

@@ -1,7 +1,7 @@
 use Rattle.std.proofs.Common.{◌∙◌, ap, sym, subst, arith, ◌≤◌, ◌^◌, take}
 use Rattle.std.specs.Int.{div_ceil}
 use Rattle.column_pack.specs.Digits.{number}
-use Rattle.column_pack.proofs.Words.{bytes-all}
+use Rattle.column_pack.specs.Laws.Words.{bytes-all}
 use Rattle.column_block.proofs.Presences.{presence-found, presence-fits, presence-spares, not-is, is-not}
 use Rattle.column_block.proofs.presence.has_presence.Goals as goal
 

@@ -1,6 +1,6 @@
 use Rattle.std.proofs.Common.{◌*◌, List, take}
 use Rattle.fold_law.specs.declared.measures.Parts.{Parts}
-use Rattle.column_block.specs.Decoded.{ArePlaced}
+use Rattle.packed_lists.specs.Decoded.{ArePlaced}
 use Rattle.column_block.specs.Rules.{AreParts, Each}
 use Rattle.column_block.specs.Spelling.{six_lists}
 use Rattle.column_block.proofs.six_lists.are_kept.Given as goal

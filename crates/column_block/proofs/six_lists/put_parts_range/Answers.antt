@@ -1,7 +1,7 @@
 use Rattle.std.proofs.Common.{◌≡◌, ◌∙◌, ap, sym, arith, ◌≤◌, ◌+◌, ◌-◌, ◌*◌, ◌/◌, ◌++◌}
 use Rattle.std.specs.Prelude.{slice_range}
 use Rattle.std.proofs.lemmas.List.{append_assoc}
-use Rattle.column_block.proofs.Placing.{range-on}
+use Rattle.packed_lists.specs.Laws.Placing.{range-on}
 use Rattle.column_block.proofs.six_lists.put_parts_range.Goals as goal
 
 pub put_from_parts-requires : goal.put_from_parts-requires

@@ -1,7 +1,7 @@
 use Rattle.std.proofs.Common.{◌≡◌, ◌*◌, ◌+◌, List, length, take}
 use Rattle.std.specs.Prelude.{slice_range}
 use Rattle.fold_law.specs.declared.measures.Parts.{Parts}
-use Rattle.column_block.specs.Decoded.{ArePlaced}
+use Rattle.packed_lists.specs.Decoded.{ArePlaced}
 use Rattle.column_block.specs.Spelling.{six_lists}
 use Rattle.column_block.proofs.six_lists.read_parts.Given as goal
 

@@ -1,5 +1,5 @@
 use Rattle.std.proofs.Common.{◌-◌, arith}
-use Rattle.column_pack.proofs.Words.{bytes-all, last-lt}
+use Rattle.column_pack.specs.Laws.Words.{bytes-all, last-lt}
 use Rattle.column_pack.proofs.bits.last_word.Goals as goal
 
 pub overflow_mul-word : goal.overflow_mul-word

@@ -1,6 +1,6 @@
 use Rattle.std.proofs.Common.{◌≡◌, ◌+◌, ◌*◌, ◌/◌, ◌%◌, ◌^◌, get_or, arith}
 use Rattle.std.proofs.lemmas.Nat.{one_shl, shl_whole}
-use Rattle.column_pack.proofs.Words.{bits-at, words-all}
+use Rattle.column_pack.specs.Laws.Words.{bits-at, words-all}
 use Rattle.column_pack.proofs.bits.number_at.Goals as goal
 
 pub returns : goal.returns

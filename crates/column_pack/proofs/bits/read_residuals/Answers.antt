@@ -1,6 +1,6 @@
 use Rattle.std.proofs.Common.{◌^◌, arith}
 use Rattle.column_pack.specs.Digits.{number}
-use Rattle.column_pack.proofs.Words.{residual-read}
+use Rattle.column_pack.specs.Laws.Words.{residual-read}
 use Rattle.column_pack.proofs.bits.read_residuals.Goals as goal
 
 pub loop-i-preserved : goal.loop-i-preserved

@@ -2,7 +2,7 @@ use Rattle.std.proofs.Common.{◌≡◌, ◌≢◌, ◌+◌, ◌*◌, ◌^◌, �
 use Rattle.std.proofs.lemmas.List.{get_or-set_other}
 use Rattle.std.specs.Int.{from_le_bytes, w64}
 use Rattle.column_pack.specs.Digits.{number}
-use Rattle.column_pack.proofs.Words.{word-read, number-set_last}
+use Rattle.column_pack.specs.Laws.Words.{word-read, number-set_last}
 use Rattle.column_pack.proofs.bits.read_words.Goals as goal
 
 pub loop-word-preserved : goal.loop-word-preserved

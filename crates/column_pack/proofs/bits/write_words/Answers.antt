@@ -2,8 +2,8 @@ use Rattle.std.proofs.Common.{◌≡◌, ◌+◌, ◌*◌, ◌^◌, ◌%◌, ◌
 use Rattle.std.proofs.lemmas.List.{take_all}
 use Rattle.std.proofs.lemmas.Nat.{mul-le}
 use Rattle.column_pack.specs.Digits.{number}
-use Rattle.column_pack.proofs.Numbers.{pending-lt, number-more_set}
-use Rattle.column_pack.proofs.Words.{grown, put, shifted, rest-lt}
+use Rattle.column_pack.specs.Laws.Numbers.{pending-lt, number-more_set}
+use Rattle.column_pack.specs.Laws.Words.{grown, put, shifted, rest-lt}
 use Rattle.column_pack.proofs.bits.write_words.Goals as goal
 use Rattle.column_pack.proofs.bits.write_words.Goals.{then-filled-ge64, else-filled-ge64}
 

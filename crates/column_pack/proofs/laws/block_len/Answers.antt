@@ -1,6 +1,6 @@
 use Rattle.std.proofs.Common.{◌≡◌, ℕ, List, Some, ◌+◌, ◌*◌, length, get_or, ap, arith}
 use Rattle.std.proofs.lemmas.List.{length-append}
-use Rattle.column_pack.proofs.OneList.{block-size, length-before}
+use Rattle.column_pack.specs.Laws.OneList.{block-size, length-before}
 use Rattle.column_pack.proofs.laws.block_len.Goals as goal
 
 pub returns-then-bytes-lt27-clause-some : goal.returns-then-bytes-lt27-clause-some

@@ -1,4 +1,4 @@
-use Rattle.column_pack.proofs.OneList.{block-count, block-size}
+use Rattle.column_pack.specs.Laws.OneList.{block-count, block-size}
 use Rattle.column_pack.proofs.laws.block_size.Goals as goal
 
 pub returns-clause-count : goal.returns-clause-count

@@ -1,4 +1,4 @@
-use Rattle.column_pack.proofs.OneList.{one-list}
+use Rattle.column_pack.specs.Laws.OneList.{one-list}
 use Rattle.column_pack.proofs.laws.one_list.Goals as goal
 
 pub returns : goal.returns

@@ -1,4 +1,4 @@
-use Rattle.column_pack.proofs.StreamBits.{stream-bits, stream-spare}
+use Rattle.column_pack.specs.Laws.StreamBits.{stream-bits, stream-spare}
 use Rattle.column_pack.proofs.laws.stream_bits.Goals as goal
 
 pub returns-clause-residuals : goal.returns-clause-residuals

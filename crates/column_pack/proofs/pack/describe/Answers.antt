@@ -2,7 +2,7 @@ use Rattle.std.proofs.Common.{◌<◌, ◌^◌, length, take, map, ap, ◌∙◌
 use Rattle.std.specs.List.{All}
 use Rattle.std.proofs.lemmas.List.{take-map}
 use Rattle.column_pack.specs.Block.{falls, below_top, height}
-use Rattle.column_pack.proofs.Blocks.{kind-plain, kind-rising, kind-falling, up-values, down-values, same-bools, other-bools, not-rising, heights-lt}
+use Rattle.column_pack.specs.Laws.Blocks.{kind-plain, kind-rising, kind-falling, up-values, down-values, same-bools, other-bools, not-rising, heights-lt}
 use Rattle.column_pack.proofs.pack.describe.Goals as goal
 
 pub returns-then-rises-falls : goal.returns-then-rises-falls
@@ -47,3 +47,9 @@ returns-else-rises c =
       values = c.describe_steps-else-rises.ensures.places ∙ ap (take (length vs)) c.flip.ensures ∙ take-map below_top (length vs) c.heights_of.new.heights ∙ ap (map below_top) c.heights_of.ensures.heights ∙ down-values k vs c.describe_steps-else-rises.ensures.kind;
       kind = kind-falling k t.result.0 t.result.1 (take (length vs) c.heights_of.new.heights) (map height vs) c.describe_steps-else-rises.ensures.kind t.ensures.rises t.ensures.falls (other-bools t.result.0 t.result.1 c.if-rises-falls.false) c.if-rises.false c.heights_of.ensures.heights;
     }
+
+pub describe_plain-requires-clause-rises : goal.describe_plain-requires-clause-rises
+describe_plain-requires-clause-rises c = c.turns-rises.ensures.rises
+
+pub describe_plain-requires-clause-falls : goal.describe_plain-requires-clause-falls
+describe_plain-requires-clause-falls c = same-bools c.turns-rises.result.0 c.turns-rises.result.1 c.if-rises-falls.true ∙ c.turns-rises.ensures.falls

@@ -3,7 +3,7 @@ use borrow.Rule.Slice.PartMut.{put_mid}
 use Rattle.column_pack.specs.Block.{IsCanonical}
 use Rattle.column_pack.specs.Digits.{IsWidth, greatest_of}
 use Rattle.column_pack.specs.Parts.{block_with}
-use Rattle.column_pack.proofs.Blocks.{put-one, steps-canonical}
+use Rattle.column_pack.specs.Laws.Blocks.{put-one, steps-canonical}
 use Rattle.column_pack.proofs.pack.describe_steps.Goals as goal
 
 pub returns-clause-canonical : goal.returns-clause-canonical

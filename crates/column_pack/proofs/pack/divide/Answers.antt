@@ -1,5 +1,5 @@
 use Rattle.std.proofs.Common.{ℕ, ◌/◌, arith}
-use Rattle.column_pack.proofs.Reduced.{mapped-at, mapped-more}
+use Rattle.column_pack.specs.Laws.Reduced.{mapped-at, mapped-more}
 use Rattle.column_pack.proofs.pack.divide.Goals as goal
 
 pub loop-i-preserved : goal.loop-i-preserved

@@ -2,8 +2,9 @@ use Rattle.std.proofs.Common.{◌++◌, Ok, Err, Result, ap, ◌∙◌, refl}
 use Rattle.std.specs.Prelude.{OnOk}
 use Rattle.column_pack.specs.Block.{layout}
 use Rattle.column_pack.specs.Parts.{block_with}
-use Rattle.column_pack.proofs.Blocks.{below-width}
-use Rattle.column_pack.proofs.OneBlock.{one-block}
+use Rattle.column_pack.specs.Laws.Blocks.{below-width}
+use Rattle.column_pack.proofs.Level.{zeros-take}
+use Rattle.column_pack.specs.Laws.OneBlock.{one-block}
 use Rattle.column_pack.proofs.pack.pack_block.Goals as goal
 
 -- what is known at Ok, weakened
@@ -18,3 +19,6 @@ pub returns-clause-only : goal.returns-clause-only
 returns-clause-only c =
     let b = block_with c.describe-header.result c.describe-header.new.residuals in
     on-ok c.append.result (λ e block h. e ∙ ap (λ ys. c.args.into.now.items ++ ys) (one-block c.args.values.now (layout b) block (b, c.describe-header.ensures, refl) h)) c.append.ensures.ok
+
+pub describe-header-requires-clause-zero : goal.describe-header-requires-clause-zero
+describe-header-requires-clause-zero c = λ k. zeros-take _ 128 k

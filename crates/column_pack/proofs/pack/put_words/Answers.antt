@@ -2,7 +2,7 @@ use Rattle.std.proofs.Common.{◌≡◌, ◌+◌, ◌*◌, ◌^◌, ◌++◌, ta
 use Rattle.std.specs.Int.{to_le_bytes, w64}
 use Rattle.std.proofs.lemmas.List.{append_assoc}
 use Rattle.column_pack.specs.Digits.{number, digits}
-use Rattle.column_pack.proofs.Words.{words-all}
+use Rattle.column_pack.specs.Laws.Words.{words-all}
 use Rattle.column_pack.proofs.Bytes.{words-more}
 use Rattle.column_pack.proofs.pack.put_words.Goals as goal
 

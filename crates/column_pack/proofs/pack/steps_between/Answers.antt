@@ -1,5 +1,5 @@
 use Rattle.std.proofs.Common.{arith}
-use Rattle.column_pack.proofs.Walks.{walk-between, kept-up_between}
+use Rattle.column_pack.specs.Laws.Walks.{walk-between, kept-up_between}
 use Rattle.column_pack.proofs.pack.steps_between.Goals as goal
 
 pub overflow_sub-steps : goal.overflow_sub-steps

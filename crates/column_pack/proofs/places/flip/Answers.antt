@@ -1,6 +1,6 @@
 use Rattle.std.proofs.Common.{arith}
 use Rattle.column_pack.specs.Block.{below_top}
-use Rattle.column_pack.proofs.Reduced.{mapped-at, mapped-more}
+use Rattle.column_pack.specs.Laws.Reduced.{mapped-at, mapped-more}
 use Rattle.column_pack.proofs.places.flip.Goals as goal
 
 pub loop-i-preserved : goal.loop-i-preserved

@@ -1,6 +1,6 @@
-use Rattle.column_pack.proofs.Words.{bytes-all}
-use Rattle.column_pack.proofs.Checks.{no-iff}
-use Rattle.column_pack.proofs.Layouts.{spare-none, spare-some}
+use Rattle.column_pack.specs.Laws.Words.{bytes-all}
+use Rattle.column_pack.specs.Laws.Checks.{no-iff}
+use Rattle.column_pack.specs.Laws.Layouts.{spare-none, spare-some}
 use Rattle.column_pack.proofs.reading.has_spare.Goals as goal
 
 pub returns : goal.returns

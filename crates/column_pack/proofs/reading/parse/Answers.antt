@@ -4,8 +4,8 @@ use Rattle.std.proofs.lemmas.Bool.{iff_false, cases_lt}
 use Rattle.std.proofs.lemmas.Nat.{mul-le}
 use Rattle.column_pack.specs.Block.{Block, layout}
 use Rattle.column_pack.specs.Digits.{number, bytes_for}
-use Rattle.column_pack.proofs.Words.{bytes-all}
-use Rattle.column_pack.proofs.Layouts.{length-layout, layout-count, layout-kind, layout-width, layout-stream, stream-number, number-stream, bytes-again}
+use Rattle.column_pack.specs.Laws.Words.{bytes-all}
+use Rattle.column_pack.specs.Laws.Layouts.{length-layout, layout-count, layout-kind, layout-width, layout-stream, stream-number, number-stream, bytes-again}
 use Rattle.column_pack.proofs.reading.parse.Goals as goal
 
 pub returns-then-bytes-lt27-clause-none : goal.returns-then-bytes-lt27-clause-none

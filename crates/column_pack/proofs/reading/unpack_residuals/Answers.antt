@@ -1,6 +1,6 @@
 use Rattle.std.proofs.Common.{◌^◌, arith, ap, ◌∙◌, sym}
 use Rattle.column_pack.specs.Digits.{number, digits}
-use Rattle.column_pack.proofs.Layouts.{zeros-at, take-zeros}
+use Rattle.column_pack.specs.Laws.Layouts.{zeros-at, take-zeros}
 use Rattle.column_pack.proofs.reading.unpack_residuals.Goals as goal
 
 pub read_words-requires-clause-zero : goal.read_words-requires-clause-zero

@@ -3,7 +3,7 @@ use Rattle.std.specs.Prelude.{◌↔◌, IsTrue}
 use Rattle.std.proofs.lemmas.List.{take_rest}
 use Rattle.column_pack.specs.Block.{start_of}
 use Rattle.column_pack.specs.Parts.{numbers_of, HasSteps}
-use Rattle.column_pack.proofs.Checks.{kind-iff-plain, kind-iff-steps, iff-trans, rising-not-plain, falling-not-plain}
+use Rattle.column_pack.specs.Laws.Checks.{kind-iff-plain, kind-iff-steps, iff-trans, rising-not-plain, falling-not-plain}
 use Rattle.column_pack.proofs.sound.has_kind.Goals as goal
 
 pub returns-in-Plain : goal.returns-in-Plain

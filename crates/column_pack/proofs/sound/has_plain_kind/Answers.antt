@@ -1,5 +1,5 @@
-use Rattle.column_pack.proofs.Blocks.{same-bools}
-use Rattle.column_pack.proofs.Checks.{plain-range, plain-alike}
+use Rattle.column_pack.specs.Laws.Blocks.{same-bools}
+use Rattle.column_pack.specs.Laws.Checks.{plain-range, plain-alike}
 use Rattle.column_pack.proofs.sound.has_plain_kind.Goals as goal
 
 pub returns-then-spread : goal.returns-then-spread

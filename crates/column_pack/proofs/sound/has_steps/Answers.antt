@@ -2,7 +2,7 @@ use Rattle.std.proofs.Common.{arith, ◌+◌, ◌*◌, ◌^◌, length}
 use Rattle.std.proofs.lemmas.Nat.{mul-le}
 use Rattle.column_pack.specs.Block.{start_of}
 use Rattle.column_pack.specs.Parts.{numbers_of}
-use Rattle.column_pack.proofs.Checks.{no-steps, total-bound, total-is, steps-range, steps-none, no-iff}
+use Rattle.column_pack.specs.Laws.Checks.{no-steps, total-bound, total-is, steps-range, steps-none, no-iff}
 use Rattle.column_pack.proofs.sound.has_steps.Goals as goal
 
 pub returns-then-offset-greatest : goal.returns-then-offset-greatest

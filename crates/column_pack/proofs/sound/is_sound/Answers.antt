@@ -3,7 +3,7 @@ use Rattle.std.proofs.lemmas.Bool.{iff_false}
 use Rattle.column_pack.specs.Block.{counted}
 use Rattle.column_pack.specs.Digits.{IsWidth}
 use Rattle.column_pack.specs.Parts.{block_with, IsSound}
-use Rattle.column_pack.proofs.Checks.{no-iff, iff-trans, sound-iff, sound-width, least-to, factor-to}
+use Rattle.column_pack.specs.Laws.Checks.{no-iff, iff-trans, sound-iff, sound-width, least-to, factor-to}
 use Rattle.column_pack.proofs.sound.is_sound.Goals as goal
 
 pub returns-then-unused_of-ne0 : goal.returns-then-unused_of-ne0

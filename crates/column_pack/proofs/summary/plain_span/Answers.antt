@@ -1,7 +1,7 @@
 use Rattle.std.proofs.Common.{◌^◌, length, arith}
 use Rattle.std.proofs.lemmas.Nat.{mul-le}
 use Rattle.column_pack.specs.Block.{turned}
-use Rattle.column_pack.proofs.Spans.{plain-span, greatest-number, whole-bound}
+use Rattle.column_pack.specs.Laws.Spans.{plain-span, greatest-number, whole-bound}
 use Rattle.column_pack.proofs.summary.plain_span.Goals as goal
 
 pub overflow_mul-result : goal.overflow_mul-result

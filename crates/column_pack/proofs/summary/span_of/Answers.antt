@@ -3,13 +3,13 @@ use Rattle.std.specs.List.{All, Contains, sum}
 use Rattle.column_pack.specs.Block.{start_of, walk, turned, counted, places_of, below_top}
 use Rattle.column_pack.specs.Parts.{block_with, numbers_of, HasSteps, heights}
 use Rattle.column_pack.specs.Span.{IsSpan}
-use Rattle.column_pack.specs.Spread.{IsSpread}
-use Rattle.column_pack.proofs.Checks.{least-to, kind-iff-steps, rising-not-plain, falling-not-plain}
-use Rattle.column_pack.proofs.Blocks.{below-width}
-use Rattle.column_pack.proofs.Sounds.{plain-counted, rising-counted, falling-counted, steps-counted, walked-places, counted-length, counted-below}
-use Rattle.column_pack.proofs.Spans.{flip-span, flip-sum}
-use Rattle.column_pack.proofs.Walks.{length-walk}
-use Rattle.column_pack.proofs.Sums.{length-numbers}
+use Rattle.column_pack.specs.Spread.{IsMeasure}
+use Rattle.column_pack.specs.Laws.Checks.{least-to, kind-iff-steps, rising-not-plain, falling-not-plain}
+use Rattle.column_pack.specs.Laws.Blocks.{below-width}
+use Rattle.column_pack.specs.Laws.Sounds.{plain-counted, rising-counted, falling-counted, steps-counted, walked-places, counted-length, counted-below}
+use Rattle.column_pack.specs.Laws.Spans.{flip-span, flip-sum}
+use Rattle.column_pack.specs.Laws.Walks.{length-walk}
+use Rattle.column_pack.specs.Laws.Sums.{length-numbers}
 use Rattle.column_pack.proofs.summary.span_of.Goals as goal
 
 pub plain_span-requires-clause-zero : goal.plain_span-requires-clause-zero
@@ -18,7 +18,7 @@ plain_span-requires-clause-zero c =
     subst (λ ys. Contains ys 0) (sym c.counted_of-counted.ensures) (least-to b c.requires.sound.canonical.factor.positive c.requires.sound.canonical.least)
 
 pub plain_span-requires-clause-spread : goal.plain_span-requires-clause-spread
-plain_span-requires-clause-spread c = subst (λ ys. IsSpread ys c.args.spread.now) (sym c.counted_of-counted.ensures) c.requires.spread
+plain_span-requires-clause-spread c = subst (λ ys. IsMeasure ys c.args.spread.now) (sym c.counted_of-counted.ensures) c.requires.spread
 
 pub steps_span-requires-clause-below : goal.steps_span-requires-clause-below
 steps_span-requires-clause-below c =

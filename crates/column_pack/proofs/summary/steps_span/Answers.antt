@@ -2,7 +2,7 @@ use Rattle.std.proofs.Common.{◌+◌, ◌*◌, length, subst, arith}
 use Rattle.column_pack.specs.Block.{walk}
 use Rattle.column_pack.specs.Parts.{numbers_of}
 use Rattle.column_pack.specs.Span.{IsSpan}
-use Rattle.column_pack.proofs.Spans.{steps-span, rise-is}
+use Rattle.column_pack.specs.Laws.Spans.{steps-span, rise-is}
 use Rattle.column_pack.proofs.summary.steps_span.Goals as goal
 
 pub overflow_mul-rise-2 : goal.overflow_mul-rise-2

@@ -7,9 +7,9 @@ use Rattle.column_pack.specs.Block.{Fits, layout}
 use Rattle.column_pack.specs.Digits.{number, digits}
 use Rattle.column_pack.specs.Parts.{block_with, residuals_in}
 use Rattle.column_pack.specs.Spread.{IsSpread}
-use Rattle.column_pack.proofs.Blocks.{below-width}
-use Rattle.column_pack.proofs.Numbers.{digits-below}
-use Rattle.column_pack.proofs.Sounds.{sound-same, counted-below}
+use Rattle.column_pack.specs.Laws.Blocks.{below-width}
+use Rattle.column_pack.specs.Laws.Numbers.{digits-below}
+use Rattle.column_pack.specs.Laws.Sounds.{sound-same, counted-below}
 use Rattle.column_pack.proofs.unpack.read_block.Goals as goal
 
 -- the residuals that were read are those that the bytes have

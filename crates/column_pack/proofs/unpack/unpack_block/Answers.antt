@@ -3,11 +3,11 @@ use Rattle.std.specs.List.{All}
 use Rattle.std.specs.Prelude.{FitsSigned}
 use Rattle.std.specs.Int.{w64}
 use Rattle.std.proofs.lemmas.List.{length-take-le, take-append-drop}
-use Rattle.column_pack.proofs.OneList.{one-list}
+use Rattle.column_pack.specs.Laws.OneList.{one-list}
 use Rattle.column_pack.specs.Block.{place, places_of}
 use Rattle.column_pack.specs.Parts.{block_with}
-use Rattle.column_pack.proofs.Layouts.{zeros-at}
-use Rattle.column_pack.proofs.Sounds.{sound-of, block-of-sound}
+use Rattle.column_pack.specs.Laws.Layouts.{zeros-at}
+use Rattle.column_pack.specs.Laws.Sounds.{sound-of, block-of-sound}
 use Rattle.column_pack.proofs.unpack.unpack_block.Goals as goal
 
 pub read_block-requires : goal.read_block-requires

@@ -5,8 +5,8 @@ use Rattle.std.specs.Int.{w64}
 use Rattle.std.proofs.lemmas.List.{take_rest, length-drop}
 use Rattle.column_pack.specs.Block.{place, walk, start_of}
 use Rattle.column_pack.specs.Parts.{numbers_of, HasSteps}
-use Rattle.column_pack.proofs.Checks.{kind-iff-steps}
-use Rattle.column_pack.proofs.Sounds.{steps-places}
+use Rattle.column_pack.specs.Laws.Checks.{kind-iff-steps}
+use Rattle.column_pack.specs.Laws.Sounds.{steps-places}
 use Rattle.column_pack.proofs.values.write_steps.Goals as goal
 
 pub walk_values-requires-clause-range : goal.walk_values-requires-clause-range

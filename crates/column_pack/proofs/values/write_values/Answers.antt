@@ -2,8 +2,8 @@ use Rattle.std.proofs.Common.{◌^◌, ◌<◌, length, take, map, ap, ◌∙◌
 use Rattle.std.specs.List.{All}
 use Rattle.column_pack.specs.Block.{place}
 use Rattle.column_pack.specs.Parts.{numbers_of}
-use Rattle.column_pack.proofs.Checks.{rising-not-plain, falling-not-plain}
-use Rattle.column_pack.proofs.Sounds.{plain-places}
+use Rattle.column_pack.specs.Laws.Checks.{rising-not-plain, falling-not-plain}
+use Rattle.column_pack.specs.Laws.Sounds.{plain-places}
 use Rattle.column_pack.proofs.values.write_values.Goals as goal
 
 pub plain_values-requires-clause-range : goal.plain_values-requires-clause-range

@@ -1,6 +1,6 @@
 use Rattle.std.proofs.Common.{◌↔◌, drop}
 use Rattle.row_cells.specs.Each.{Each}
-use Rattle.index_segment.specs.Rows.{IsRowOf}
+use Rattle.row_cells.specs.KeyedRows.{IsRowOf}
 use Rattle.index_segment.proofs.check.are_each.Given as goal
 
 abbrev pub invariant-loop-row : goal.invariant-loop-row

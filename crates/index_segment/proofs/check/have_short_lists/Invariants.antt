@@ -1,6 +1,6 @@
 use Rattle.std.proofs.Common.{◌↔◌, drop}
 use Rattle.row_cells.specs.Each.{Each}
-use Rattle.index_segment.specs.Rows.{IsShortList}
+use Rattle.row_cells.specs.KeyedRows.{IsShortList}
 use Rattle.index_segment.proofs.check.have_short_lists.Given as goal
 
 abbrev pub invariant-loop-cell : goal.invariant-loop-cell

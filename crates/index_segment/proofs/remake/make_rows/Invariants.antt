@@ -3,7 +3,7 @@ use Rattle.row_cells.specs.declared.rows.Row.{Row}
 use Rattle.row_cells.specs.Mapped.{IsMapped}
 use Rattle.index_segment.specs.Directory.{sizes_of, total}
 use Rattle.index_segment.specs.Parts.{HaveParts}
-use Rattle.index_segment.specs.Rows.{AreRowsOf}
+use Rattle.row_cells.specs.KeyedRows.{AreRowsOf}
 use Rattle.index_segment.proofs.remake.make_rows.Given as goal
 
 abbrev pub invariant-loop-series : goal.invariant-loop-series

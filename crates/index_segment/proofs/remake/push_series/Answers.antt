@@ -40,5 +40,5 @@ returns-clause-rows c rows mapped are parts start_is =
     let end_is = ends _ _ _ _ _ _ _ mapped are parts _ _ _ there start_is c.in-Some.end (some_is (sym c.in-Some.is ∙ c.end_of.ensures.all n size (omega (arith, within, c.len-2.ensures)))) in
     let heads = c.as_slice-6.ensures ∙ (c.in_ok-heads.ensures ∙ (ap (λ fields. heads_in fields c.bytes.result.now) c.as_slice-2.ensures ∙ ap (heads_in c.args.schema.now.fields) c.bytes.ensures.is)) in
     let columns = c.as_slice-9.ensures ∙ (c.in_ok-columns.ensures ∙ ap (map (rows_between c.args.start c.in-Some.end)) c.as_slice-5.ensures) in
-    let made = remade _ _ _ _ _ _ _ mapped are parts _ _ _ (ap (λ ks. slice_get ks c.args.series) (sym c.as_slice.ensures) ∙ sym c.in-Some-at.ensures) start_is c.in-Some.end _ _ _ _ _ end_is c.requires.forms heads columns (c.as_slice-7.ensures ∙ c.in_ok-times.ensures) (c.as_slice-8.ensures ∙ c.in_ok-counts.ensures) in
+    let made = remade _ _ _ _ _ _ _ mapped are parts _ _ _ (ap (λ ks. slice_get ks c.args.series) (sym c.as_slice.ensures) ∙ sym c.in-Some-at.ensures) start_is c.in-Some.end _ _ _ _ _ end_is c.requires.forms heads columns (c.as_slice-7.ensures.value ∙ c.in_ok-times.ensures) (c.as_slice-8.ensures.value ∙ c.in_ok-counts.ensures) in
     (end_is, c.in_ok-push_rows.ensures ∙ ap (λ made. c.args.into.now.items ++ made) made)

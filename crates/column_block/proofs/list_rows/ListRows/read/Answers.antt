@@ -1,12 +1,12 @@
 use Rattle.std.proofs.Common.{◌≡◌, ◌∙◌, ap, sym, subst, refl, length, take, ◌++◌, [], ◌∷◌, ℕ, ℤ, pos, List, Err}
 use Rattle.std.proofs.lemmas.List.{length-map}
 use Rattle.column_block.specs.Cutting.{IsShort, total}
-use Rattle.column_block.specs.Nums.{AreNums}
+use Rattle.packed_lists.specs.Nums.{AreNums}
 use Rattle.column_block.specs.Rules.{Each}
 use Rattle.column_block.specs.Spelling.{joined, lengths}
 use Rattle.column_block.proofs.Cuts.{lengths-sizes, total-lengths}
-use Rattle.column_block.proofs.Founds.{found-one}
-use Rattle.column_block.proofs.Fronts.{err-same}
+use Rattle.packed_lists.specs.Laws.Founds.{found-one}
+use Rattle.packed_lists.specs.Laws.Fronts.{err-same}
 use Rattle.column_block.proofs.Rowed.{lists-are, read-rows, begins-sizes}
 use Rattle.column_block.proofs.list_rows.ListRows.read.Goals as goal
 

@@ -1,5 +1,5 @@
 use Rattle.std.proofs.Common.{◌∙◌, ap, arith, ℕ, List, length}
-use Rattle.column_block.specs.Decoded.{ArePlaced}
+use Rattle.packed_lists.specs.Decoded.{ArePlaced}
 use Rattle.column_block.specs.HeldParts.{IsPartsColumn}
 use Rattle.column_block.specs.Presence.{present}
 use Rattle.column_block.specs.Spelling.{six_lists}

@@ -4,7 +4,7 @@ use Rattle.column_block.specs.Ranges.{parts_of_one}
 use Rattle.std.specs.Prelude.{slice_range}
 use Rattle.fold_law.specs.Laws.{fold_of}
 use Rattle.column_block.specs.Presence.{present}
-use Rattle.column_block.proofs.Placing.{range-none}
+use Rattle.packed_lists.specs.Laws.Placing.{range-none}
 use Rattle.column_block.proofs.Folding.{reach-block, fold-block}
 use Rattle.column_block.proofs.whole.WholeColumn.fold_numbers.Goals as goal
 

@@ -4,7 +4,7 @@ use Rattle.fold_law.specs.Laws.{fold_of}
 use Rattle.fold_law.specs.Gauges.{no_gauge, merge_gauges, gauge_of_one, gauge_laws}
 use Rattle.column_block.specs.Presence.{present}
 use Rattle.column_block.specs.Ranges.{parts_of_one}
-use Rattle.column_block.proofs.Placing.{range-none}
+use Rattle.packed_lists.specs.Laws.Placing.{range-none}
 use Rattle.column_block.proofs.Folding.{reach-block, reach-merged, fold-block}
 use Rattle.column_block.proofs.whole.WholeColumn.gauge_numbers.Goals as goal
 

@@ -1,7 +1,7 @@
 use Rattle.std.proofs.Common.{ap, arith, ℕ, List, length}
 use Rattle.column_block.specs.Held.{IsWhole}
 use Rattle.column_block.specs.Presence.{present}
-use Rattle.column_block.proofs.Placing.{places-count}
+use Rattle.packed_lists.specs.Laws.Placing.{places-count}
 use Rattle.column_block.proofs.SixLists.{blocks-fit}
 use Rattle.column_block.proofs.whole.WholeColumn.read_block.Goals as goal
 

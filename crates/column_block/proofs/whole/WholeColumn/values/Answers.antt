@@ -1,5 +1,5 @@
 use Rattle.std.proofs.Common.{◌∙◌, ap, arith, ℕ, List, [], ◌∷◌, length}
-use Rattle.column_block.specs.Decoded.{AreBlocksAt}
+use Rattle.packed_lists.specs.Decoded.{AreBlocksAt}
 use Rattle.column_block.specs.Held.{IsWhole}
 use Rattle.column_block.specs.Presence.{present}
 use Rattle.column_block.proofs.Aheads.{flags-known, long-enough, count-order, count-whole}

@@ -1,7 +1,7 @@
 use Rattle.std.proofs.Common.{◌≡◌, ◌∙◌, ap, sym, rules, length, take, ◌++◌, Err, ◌<◌, ◌^◌}
 use Rattle.std.proofs.lemmas.Bool.{false≢true}
 use Rattle.column_block.specs.Worded.{worded}
-use Rattle.column_block.proofs.Fronts.{err-same}
+use Rattle.packed_lists.specs.Laws.Fronts.{err-same}
 use Rattle.column_block.proofs.Wording.{begins-table, begun, rows-one, read-words, words-bytes, table-inside, read-ordinals, shown-ordinals}
 use Rattle.column_block.proofs.words.TextRows.read.Goals as goal
 

@@ -6,41 +6,34 @@ use Rattle.index_segment.specs.Looks.{IsRange}
 use Rattle.index_segment.specs.Order.{Stands}
 use Rattle.index_segment.proofs.Places.{last_within, range_is, times_fall}
 use Rattle.index_segment.proofs.Scanned.{none_within}
-use Rattle.index_segment.proofs.Writing.{times_few}
 use Rattle.index_segment.proofs.segment.Segment.range.Goals as goal
 
 pub returns-in_err-series-clause-none : goal.returns-in_err-series-clause-none
 returns-in_err-series-clause-none c none = none_within c.args.self.now.rows c.args.key.now c.args.from c.args.to (c.in_err-series.ensures.none refl)
 
-pub cut_freely-first-requires-clause-few : goal.cut_freely-first-requires-clause-few
-cut_freely-first-requires-clause-few c = times_few _ _ _ _ _ _ _ _ c.self.invariant
+pub cut-first-requires-clause-within : goal.cut-first-requires-clause-within
+cut-first-requires-clause-within c = rw c.cursor-times.ensures (last_within _ _ _ _ _ _ _ _ c.self.invariant c.args.key.now c.in_ok-series.series.first c.in_ok-series.series.last (subst (λ (h : Held). Stands (row_keys h.rows) c.args.key.now c.in_ok-series.series.first c.in_ok-series.series.last) (sym c.self.view_is) c.in_ok-series.ensures.some))
 
-pub cut_freely-first-requires-clause-within : goal.cut_freely-first-requires-clause-within
-cut_freely-first-requires-clause-within c = last_within _ _ _ _ _ _ _ _ c.self.invariant c.args.key.now c.in_ok-series.series.first c.in_ok-series.series.last (subst (λ (h : Held). Stands (row_keys h.rows) c.args.key.now c.in_ok-series.series.first c.in_ok-series.series.last) (sym c.self.view_is) c.in_ok-series.ensures.some)
+pub cut-first-requires-clause-falling : goal.cut-first-requires-clause-falling
+cut-first-requires-clause-falling c = rw c.cursor-times.ensures (times_fall _ _ _ _ _ _ _ _ c.self.invariant c.args.key.now c.in_ok-series.series.first c.in_ok-series.series.last (subst (λ (h : Held). Stands (row_keys h.rows) c.args.key.now c.in_ok-series.series.first c.in_ok-series.series.last) (sym c.self.view_is) c.in_ok-series.ensures.some))
 
-pub cut_freely-first-requires-clause-falling : goal.cut_freely-first-requires-clause-falling
-cut_freely-first-requires-clause-falling c = times_fall _ _ _ _ _ _ _ _ c.self.invariant c.args.key.now c.in_ok-series.series.first c.in_ok-series.series.last (subst (λ (h : Held). Stands (row_keys h.rows) c.args.key.now c.in_ok-series.series.first c.in_ok-series.series.last) (sym c.self.view_is) c.in_ok-series.ensures.some)
+pub cut-last-requires-clause-within : goal.cut-last-requires-clause-within
+cut-last-requires-clause-within c = rw (c.cut-first.ensures.same, c.cursor-times.ensures) (last_within _ _ _ _ _ _ _ _ c.self.invariant c.args.key.now c.in_ok-series.series.first c.in_ok-series.series.last (subst (λ (h : Held). Stands (row_keys h.rows) c.args.key.now c.in_ok-series.series.first c.in_ok-series.series.last) (sym c.self.view_is) c.in_ok-series.ensures.some))
 
-pub cut_freely-last-requires-clause-few : goal.cut_freely-last-requires-clause-few
-cut_freely-last-requires-clause-few c = times_few _ _ _ _ _ _ _ _ c.self.invariant
-
-pub cut_freely-last-requires-clause-within : goal.cut_freely-last-requires-clause-within
-cut_freely-last-requires-clause-within c = last_within _ _ _ _ _ _ _ _ c.self.invariant c.args.key.now c.in_ok-series.series.first c.in_ok-series.series.last (subst (λ (h : Held). Stands (row_keys h.rows) c.args.key.now c.in_ok-series.series.first c.in_ok-series.series.last) (sym c.self.view_is) c.in_ok-series.ensures.some)
-
-pub cut_freely-last-requires-clause-falling : goal.cut_freely-last-requires-clause-falling
-cut_freely-last-requires-clause-falling c i j from less to =
+pub cut-last-requires-clause-falling : goal.cut-last-requires-clause-falling
+cut-last-requires-clause-falling c = rw (c.cut-first.ensures.same, c.cursor-times.ensures) (λ i j from less to.
     let fall = times_fall _ _ _ _ _ _ _ _ c.self.invariant c.args.key.now c.in_ok-series.series.first c.in_ok-series.series.last (subst (λ (h : Held). Stands (row_keys h.rows) c.args.key.now c.in_ok-series.series.first c.in_ok-series.series.last) (sym c.self.view_is) c.in_ok-series.ensures.some) in
-    fall i j (omega (arith, from, c.cut_freely-first.ensures.low)) less to
+    fall i j (omega (arith, from, c.cut-first.ensures.low)) less to)
 
 pub returns-clause-some : goal.returns-clause-some
 returns-clause-some c =
     let key = c.args.key.now in
     let stands = subst (λ (h : Held). Stands (row_keys h.rows) key c.in_ok-series.series.first c.in_ok-series.series.last) (sym c.self.view_is) c.in_ok-series.ensures.some in
-    let i = c.cut_freely-first.result in
-    let j = c.cut_freely-last.result in
+    let i = c.cut-first.result in
+    let j = c.cut-last.result in
     let s = c.self.inside in
     let rows = rows_held s.schema s.keys s.sizes s.times s.counts s.columns in
     subst (λ (h : Held). IsRange key c.args.from c.args.to h.rows i j) c.self.view_is
     (subst (λ f. IsRange key f c.args.to rows i j) (to_z-of_z {w = w64} c.ranges.from)
     (subst (λ t. IsRange key (to_z w64 (of_z w64 c.args.from)) t rows i j) (to_z-of_z {w = w64} c.ranges.to)
-    (range_is _ _ _ _ _ _ _ _ c.self.invariant key _ _ c.in_ok-series.series.first c.in_ok-series.series.last i j stands c.cut_freely-first.ensures.low c.cut_freely-last.ensures.low c.cut_freely-last.ensures.high c.cut_freely-first.ensures.before c.cut_freely-first.ensures.behind c.cut_freely-last.ensures.before c.cut_freely-last.ensures.behind)))
+    (range_is _ _ _ _ _ _ _ _ c.self.invariant key _ _ c.in_ok-series.series.first c.in_ok-series.series.last i j stands c.cut-first.ensures.low c.cut-last.ensures.low c.cut-last.ensures.high (rw c.cursor-times.ensures at c.cut-first.ensures.before) (rw c.cursor-times.ensures at c.cut-first.ensures.behind) (rw (c.cut-first.ensures.same, c.cursor-times.ensures) at c.cut-last.ensures.before) (rw (c.cut-first.ensures.same, c.cursor-times.ensures) at c.cut-last.ensures.behind))))

@@ -25,7 +25,7 @@ rows_of_series-requires-clause-same c = heads_same c.self.inside.schema c.args.k
 pub rows_of_series-requires-clause-counted : goal.rows_of_series-requires-clause-counted
 rows_of_series-requires-clause-counted c =
     let r = subst (λ (h : Held). IsRange c.args.key.now (to_z w64 (of_z w64 c.args.from)) (to_z w64 (of_z w64 c.args.to)) h.rows c.in-Some.range.first c.in-Some.range.last) (sym c.self.view_is) c.in-Some.ensures.some in
-    counts_same _ _ _ _ _ _ _ _ c.self.invariant _ _ _ _ _ r c.as_slice-5.result.now c.as_slice-6.result.now (c.as_slice-5.ensures ∙ c.in_ok-times.ensures) (c.as_slice-6.ensures ∙ c.in_ok-counts.ensures)
+    counts_same _ _ _ _ _ _ _ _ c.self.invariant _ _ _ _ _ r c.as_slice-5.result.now c.as_slice-6.result.now (c.as_slice-5.ensures.value ∙ c.in_ok-times.ensures) (c.as_slice-6.ensures.value ∙ c.in_ok-counts.ensures)
 
 pub returns : goal.returns
 returns c =
@@ -35,7 +35,7 @@ returns c =
     let heads = c.as_slice-4.ensures ∙ (c.in_ok-heads.ensures ∙ (ap (λ fields. heads_in fields c.bytes.result.now) c.as_slice.ensures ∙ ap (heads_in s.schema.fields) c.bytes.ensures.is)) in
     let forms = c.as_slice-3.ensures ∙ c.in_ok-forms.ensures in
     let columns = c.as_slice-7.ensures ∙ (c.in_ok-columns.ensures ∙ ap (map (rows_between c.in-Some.range.first c.in-Some.range.last)) c.as_slice-2.ensures) in
-    let made = scan_is _ _ _ _ _ _ _ _ c.self.invariant _ _ _ _ _ r c.as_slice-3.result.now c.as_slice-4.result.now c.as_slice-7.result.now c.as_slice-5.result.now c.as_slice-6.result.now forms heads columns (c.as_slice-5.ensures ∙ c.in_ok-times.ensures) (c.as_slice-6.ensures ∙ c.in_ok-counts.ensures) in
+    let made = scan_is _ _ _ _ _ _ _ _ c.self.invariant _ _ _ _ _ r c.as_slice-3.result.now c.as_slice-4.result.now c.as_slice-7.result.now c.as_slice-5.result.now c.as_slice-6.result.now forms heads columns (c.as_slice-5.ensures.value ∙ c.in_ok-times.ensures) (c.as_slice-6.ensures.value ∙ c.in_ok-counts.ensures) in
     c.in_ok-rows.ensures
     ∙ (made
     ∙ (ap (λ f. rows_within key f (to_z w64 (of_z w64 c.args.to)) (rows_held s.schema s.keys s.sizes s.times s.counts s.columns)) (to_z-of_z {w = w64} c.ranges.from)
