@@ -2,22 +2,42 @@
 #![tactic(auto)]
 
 use edge_face::{ReaderSource, WriterSink};
+use std::io::ErrorKind;
 use std::process::ExitCode;
 use std::{env, io};
-use tsds_cli::{status_text, top};
+use tsds_cli::{NO_MEMORY, USAGE, status_text, top};
 
 /// The words of the command line.
 fn words(rt: &HostRuntime) -> io::Result<Vec<String>> {
     env::args(rt)?.collect(rt.alloc()).map_err(io::Error::from)
 }
 
-fn main(rt: HostRuntime) -> io::Result<ExitCode> {
-    let words = words(&rt)?;
-    let mut source = ReaderSource::new(rt.stdin());
-    let mut sink = WriterSink::new(rt.stdout());
-    let status = top(rt.alloc(), words.as_slice(), &mut source, &mut sink);
-    if status != 0 {
-        rt.eprintln(status_text(status))?;
+/// The status where the words can't be had: there is no memory for them, or one isn't UTF-8.
+fn status_without_words(error: io::Error) -> u8 {
+    match error.kind() {
+        ErrorKind::OutOfMemory => NO_MEMORY,
+        _ => USAGE,
     }
-    Ok(ExitCode::from(status))
+}
+
+/// Runs the program over the real devices.
+fn run(rt: &HostRuntime) -> u8 {
+    match words(rt) {
+        Ok(words) => top(
+            rt.alloc(),
+            words.as_slice(),
+            &mut ReaderSource::new(rt.stdin()),
+            &mut WriterSink::new(rt.stdout()),
+        ),
+        Err(error) => status_without_words(error),
+    }
+}
+
+fn main(rt: HostRuntime) -> ExitCode {
+    let status = run(&rt);
+    if status != 0 {
+        // Where standard error takes nothing the status alone tells.
+        let _ = rt.eprintln(status_text(status));
+    }
+    ExitCode::from(status)
 }

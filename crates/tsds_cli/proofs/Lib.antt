@@ -1,4 +1,6 @@
-pub mod AheadLemmas
+pub mod FrontLemmas
+pub mod MomentLemmas
+pub mod PassLemmas
 pub mod PiecesLemmas
-pub mod ProgressLemmas
+pub mod RunLemmas
 pub mod SourcesLemmas

@@ -1,5 +1,5 @@
 -- All pieces are the first one, and those of what follows it.
-use Rattle.std.proofs.Common.{◌≡◌, ◌∙◌, ℕ, ◌+◌, ◌<◌, ◌==◌, Bool, true, false, cond, List, [], ◌∷◌, ◌++◌, length, refl, ap, sym, arith, length-append}
+use Rattle.std.proofs.Common.{◌≡◌, ◌∙◌, ℕ, ◌+◌, ◌<◌, ◌==◌, Bool, true, false, cond, List, [], ◌∷◌, ◌++◌, length, refl, ap, arith, length-append}
 use Rattle.edge_face.specs.Lines.{piece_of, after_piece, pieces_of, with_first}
 
 -- a piece and what follows it are all

@@ -1,5 +1,5 @@
 -- The sources of a bulk body, pair by pair.
-use Rattle.std.proofs.Common.{◌≡◌, ◌∙◌, ℕ, suc, ◌+◌, ◌<◌, List, [], ◌∷◌, ◌++◌, Bor, Bool, true, false, cond, length, get_or, drop, map, ap, sym, refl, arith, add-one, append_assoc, Option, None, Some, codes}
+use Rattle.std.proofs.Common.{◌≡◌, ◌∙◌, ℕ, suc, ◌+◌, ◌<◌, List, [], ◌∷◌, ◌++◌, Bor, true, false, cond, length, get_or, drop, map, ap, sym, refl, arith, append_assoc, Option, None, Some, codes}
 use Rattle.std.specs.Option.{option_map}
 use Rattle.std.specs.Prelude.{bytes_eq}
 use Rattle.std.proofs.Math.Seq.{drop-cons}

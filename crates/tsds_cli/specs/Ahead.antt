@@ -1,50 +1,80 @@
--- What a script that is being read has ahead.
-use Rattle.std.specs.Prelude.{◌≡◌, ℕ, List, [], ◌∷◌, ◌++◌, Bool, true, false, ◌||◌, Option, IfSome}
+-- What a script that is being read has ahead, and what calls took of it.
+use Rattle.std.specs.Prelude.{◌≡◌, ◌≤◌, ℕ, List, [], ◌∷◌, ◌++◌, Bool, true, false, map, Option, IfSome}
 use Rattle.std.specs.Option.{option_map}
+use Rattle.edge_face.specs.Contents.{preceded}
+use Rattle.edge_face.specs.Lines.{pieces_of, line_of, HasNoNewline}
 use Rattle.edge_face.specs.Reading.{Reading, left_of}
-use Rattle.tsds_cli.specs.declared.script.Event.{Event}
-use Rattle.tsds_cli.specs.Script.{lines_of, body_of, events_from}
-use Rattle.tsds_cli.specs.Limits.{is_long_from, is_long_body}
+use Rattle.tsds_cli.specs.Script.{Event}
+use Rattle.tsds_cli.specs.declared.script.Heard.{Heard}
+use Rattle.tsds_cli.specs.declared.script.Opening.{Opening}
+use Rattle.tsds_cli.specs.declared.script.Opening.TheVariants.{Moment, Request}
+use Rattle.tsds_cli.specs.declared.script.ScriptError.{ScriptError}
+use Rattle.tsds_cli.specs.declared.script.ScriptError.TheVariants.{Read, TooLong, NoMemory}
+use Rattle.tsds_cli.specs.Script as Script
+use Rattle.tsds_cli.specs.Script.{Place, between, within, whole_lines, events_from, closed_from}
+use Rattle.tsds_cli.specs.Limits.{long_from, fine_from}
 
--- the events that are still to come, and whether a length is passed in them
+-- the events that are still to come, those before a length is passed, and whether one is
 pub record Ahead : Type 0 where
   pub events : List Event
+  pub fine : List Event
   pub long : Bool
 
--- the same behind one event more
-abbrev pub behind : Event → Ahead → Ahead
-behind event ahead = record { events = event ∷ ahead.events; long = ahead.long }
+abbrev pub ahead_in : Place → ℕ → List (List ℕ) → Ahead
+ahead_in place before pieces = record { events = events_from place (map line_of pieces); fine = fine_from place before pieces; long = long_from place before pieces }
 
--- what lies ahead of a reader, where a body comes first or not
-abbrev pub ahead_of : Bool → Reading → Option (List ℕ) → Option Ahead
-ahead_of in_body reader left = option_map (λ bytes. record { events = events_from in_body (lines_of bytes); long = is_long_from in_body reader.answered bytes }) (left_of reader left)
+-- what lies ahead of a reader at a place of the script
+abbrev pub ahead_of : Place → Reading → Option (List ℕ) → Option Ahead
+ahead_of place reader left = option_map (λ bytes. ahead_in place reader.answered (pieces_of bytes)) (left_of reader left)
 
--- a body that is being read: all of it, and what lies ahead of its next line
-pub record InBody : Type 0 where
-  pub body : List ℕ
-  pub ahead : Ahead
+-- the same behind some events more
+abbrev pub behind : List Event → Ahead → Ahead
+behind events ahead = record { events = events ++ ahead.events; fine = events ++ ahead.fine; long = ahead.long }
 
--- the same, of which so much was read
-abbrev pub in_body_of : List ℕ → Reading → Option (List ℕ) → Option InBody
-in_body_of so_far reader left = option_map (λ bytes. record {
-  body = so_far ++ body_of (lines_of bytes);
-  ahead = record { events = events_from true (lines_of bytes); long = is_long_from true reader.answered bytes };
-}) (left_of reader left)
+-- bytes lead from one place to another and close these events, whatever follows them
+abbrev pub Closes : Place → List Event → Place → List ℕ → Type 0
+Closes place events to gone = (more : List ℕ) → closed_from place (whole_lines (gone ++ more)) ≡ events ++ closed_from to (whole_lines more)
 
--- the request line before a body
-abbrev pub with_line : List ℕ → InBody → Ahead
-with_line line rest =
-    let event : Event = record { line = line; body = rest.body } in
-    record { events = event ∷ rest.ahead.events; long = is_long_body event || rest.ahead.long }
+-- a reader went over bytes that lead from one place to another, and these events are closed in them
+pub record Passed (place : Place) (events : List Event) (to : Place) (before after : Reading) (old new : Option (List ℕ)) : Type 0 where
+  pub gone : List ℕ
+  pub moved : left_of before old ≡ preceded gone (left_of after new)
+  pub closed : after.ended ≡ false → Closes place events to gone
+  pub ahead : ahead_of place before old ≡ option_map (behind events) (ahead_of to after new)
+  pub still : after.ended ≡ false → before.ended ≡ false
+  pub counted : before.answered ≤ after.answered
 
--- what lies ahead behind a request line
-abbrev pub ahead_of_body : List ℕ → Reading → Option (List ℕ) → Option Ahead
-ahead_of_body line reader left = option_map (with_line line) (in_body_of [] reader left)
+-- the script is at its end
+pub record IsAtEnd (from place : Place) (before after : Reading) (old new : Option (List ℕ)) : Type 0 where
+  pub passed : Passed from [] place before after old new
+  pub ended : after.ended ≡ true
+  pub nothing : after.pending ≡ []
 
--- a whole body, and what lies ahead behind it
-abbrev pub behind_body : List ℕ → Option Ahead → Option InBody
-behind_body body ahead = option_map (λ a. record { body = body; ahead = a }) ahead
+-- why no further event comes, where the reader stands at this place
+abbrev pub WhyStopped : ScriptError → Place → Reading → Option (List ℕ) → Type 0
+WhyStopped Read place reader left = HasNoNewline reader.pending × (reader.ended ≡ false)
+WhyStopped TooLong place reader left = IfSome (ahead_of place reader left) (λ ahead. (ahead.fine ≡ []) × (ahead.long ≡ true))
+WhyStopped NoMemory place reader left = Unit {0}
 
--- nothing lies ahead, and no length was passed
-abbrev pub IsAtEnd : Reading → Option (List ℕ) → Type 0
-IsAtEnd reader left = IfSome (ahead_of false reader left) (λ ahead. (ahead.events ≡ []) × (ahead.long ≡ false))
+-- a reader went on without closing an event, and stopped
+pub record Stopped (from : Place) (error : ScriptError) (before after : Reading) (old new : Option (List ℕ)) : Type 0 where
+  pub place : Place
+  pub passed : Passed from [] place before after old new
+  pub why : WhyStopped error place after new
+
+-- what a line between events opens, by its kind and its text: the events that it closes, and where it leads
+abbrev pub opened : Opening → List ℕ → List Event
+opened Moment text = Script.Moment text ∷ []
+opened Request line = []
+
+abbrev pub opens : Opening → List ℕ → Place
+opens Moment text = between
+opens Request line = within line []
+
+-- the event that buffers hold
+abbrev pub event_by : Opening → List ℕ → List ℕ → Event
+event_by Moment text body = Script.Moment text
+event_by Request line body = Script.Request line body
+
+abbrev pub event_in : Heard → Event
+event_in heard = event_by heard.opening heard.line.items heard.body.items

@@ -1,8 +1,9 @@
 -- The plain machine: one list of documents, and what it answers.
-use Rattle.std.specs.Prelude.{ℕ, ◌==◌, ℤ, pos, negsuc, List, [], ◌∷◌, ◌++◌, length, Bool, true, false, not, ◌&&◌, map, bytes_eq, codes, nat_lt, Option, None, Some, option_and_then, if◌then◌else◌}
+use Rattle.std.specs.Prelude.{ℕ, ◌==◌, ℤ, pos, negsuc, List, [], ◌∷◌, ◌++◌, length, Bool, true, false, ◌&&◌, map, bytes_eq, codes, nat_lt, int_le, Option, None, Some, option_and_then, if◌then◌else◌}
 use Rattle.std.specs.Option.{option_map}
 use Rattle.std.specs.List.{list_any, slice_split}
 use Rattle.std.specs.Fmt.{decimal}
+use Rattle.std.specs.Str.{is_utf8}
 use Rattle.std.specs.Ordering.{int_eq}
 use Rattle.serde_json.specs.Data.{Data}
 use Rattle.serde_json.specs.Find.{get, as_number, as_i64, as_str}
@@ -11,7 +12,11 @@ use Rattle.json_walk.specs.Tree.{tree_of}
 use Rattle.reply_json.specs.declared.out.Out.{Out, Flag, Num, Word, List as array, Object}
 use Rattle.reply_json.specs.Reply.{text}
 use Rattle.reply_json.specs.Trees.{member, error_tree}
-use Rattle.tsds_cli.specs.declared.script.Event.{Event}
+use Rattle.tsds_cli.specs.Script.{Event, Moment, Request}
+use Rattle.time_text.specs.Instant.{instant_of}
+use Rattle.tsds_cli.specs.declared.machine.Reply.{Reply}
+use Rattle.tsds_cli.specs.declared.machine.Machine.{Machine}
+use Rattle.tsds_cli.specs.Play.{Play}
 use Rattle.tsds_cli.specs.declared.documents.Document.{Document}
 use Rattle.tsds_cli.specs.declared.machine.Asked.{Asked}
 use Rattle.tsds_cli.specs.declared.machine.Asked.TheVariants.{Count, Bulk, Other}
@@ -91,7 +96,8 @@ refused_item status kind reason =
 
 -- the item of the reply
 abbrev pub item_of : Outcome → Out
-item_of Created = Object (member (codes "create") (Object (member (codes "_index") (Word (codes "m")) ∷ member (codes "result") (Word (codes "created")) ∷ member (codes "status") (Num (pos 201)) ∷ [])) ∷ [])
+item_of Created =
+    Object (member (codes "create") (Object (member (codes "_index") (Word (codes "m")) ∷ member (codes "result") (Word (codes "created")) ∷ member (codes "status") (Num (pos 201)) ∷ [])) ∷ [])
 item_of Conflict = refused_item 409 (codes "version_conflict_engine_exception") (codes "version conflict, document already exists")
 item_of NotBuilt = refused_item 400 (codes "not_built_exception") (codes "not built")
 
@@ -101,20 +107,23 @@ is_refused Conflict = true
 is_refused NotBuilt = true
 
 -- a status and a tree, in one line
-unfoldable pub reply_line : ℕ → Out → List ℕ
-reply_line status tree = decimal status ++ (32 ∷ (text tree ++ 10 ∷ []))
+unfoldable pub reply_line : Reply → List ℕ
+reply_line reply = decimal reply.status ++ (32 ∷ (text reply.tree ++ 10 ∷ []))
 
-unfoldable pub not_built : List ℕ
-not_built = reply_line 400 (error_tree 400 (codes "not_built_exception") (codes "not built"))
+unfoldable pub not_built : Reply
+not_built = record { status = 400; tree = error_tree 400 (codes "not_built_exception") (codes "not built") }
 
-unfoldable pub count_reply : ℕ → List ℕ
-count_reply count = reply_line 200 (Object (member (codes "count") (Num (pos count)) ∷ []))
+unfoldable pub bad_moment : Reply
+bad_moment = record { status = 400; tree = error_tree 400 (codes "illegal_argument_exception") (codes "bad moment") }
+
+unfoldable pub count_reply : ℕ → Reply
+count_reply count = record { status = 200; tree = Object (member (codes "count") (Num (pos count)) ∷ []) }
 
 abbrev pub bulk_tree : Bool → List Out → Out
 bulk_tree errors items = Object (member (codes "errors") (Flag errors) ∷ member (codes "items") (array items) ∷ [])
 
-unfoldable pub bulk_reply : List Outcome → List ℕ
-bulk_reply outcomes = reply_line 200 (bulk_tree (list_any is_refused outcomes) (map item_of outcomes))
+unfoldable pub bulk_reply : List Outcome → Reply
+bulk_reply outcomes = record { status = 200; tree = bulk_tree (list_any is_refused outcomes) (map item_of outcomes) }
 
 -- the two requests that are answered, byte for byte
 abbrev pub asked_by : List ℕ → Asked
@@ -122,7 +131,7 @@ asked_by line =
     if bytes_eq line (codes "GET /m/_count") then Count
     else (if bytes_eq line (codes "POST /m/_bulk") then Bulk else Other)
 
-abbrev pub bulk_to : List Document → Option (List (List ℕ)) → List ℕ
+abbrev pub bulk_to : List Document → Option (List (List ℕ)) → Reply
 bulk_to documents None = not_built
 bulk_to documents (Some sources) = bulk_reply (outcomes_of documents sources)
 
@@ -131,7 +140,7 @@ bulk_after documents None = documents
 bulk_after documents (Some sources) = documents_after documents sources
 
 -- the reply to a request, and the documents after it
-abbrev pub reply_as : Asked → List Document → List ℕ → List ℕ
+abbrev pub reply_as : Asked → List Document → List ℕ → Reply
 reply_as Count documents body = count_reply (length documents)
 reply_as Bulk documents body = bulk_to documents (bulk_sources body)
 reply_as Other documents body = not_built
@@ -141,8 +150,57 @@ after_as Count documents body = documents
 after_as Bulk documents body = bulk_after documents (bulk_sources body)
 after_as Other documents body = documents
 
-unfoldable pub reply_to : List Document → Event → List ℕ
-reply_to documents event = reply_as (asked_by event.line) documents event.body
+unfoldable pub reply_to : List Document → List ℕ → List ℕ → Reply
+reply_to documents line body = reply_as (asked_by line) documents body
 
-unfoldable pub after : List Document → Event → List Document
-after documents event = after_as (asked_by event.line) documents event.body
+unfoldable pub after : List Document → List ℕ → List ℕ → List Document
+after documents line body = after_as (asked_by line) documents body
+
+-- the moment that a text says, unless it is earlier than the present
+unfoldable pub moment_in : List ℕ → Option ℤ
+moment_in text = if is_utf8 text then instant_of text else None
+
+abbrev pub unless_earlier : ℤ → ℤ → Option ℤ
+unless_earlier now moment = if int_le now moment then Some moment else None
+
+abbrev pub not_before : ℤ → Option ℤ → Option ℤ
+not_before now None = None
+not_before now (Some moment) = unless_earlier now moment
+
+-- a moment that is taken has no reply
+abbrev pub moment_reply : Option ℤ → Option Reply
+moment_reply None = Some bad_moment
+moment_reply (Some moment) = None
+
+abbrev pub moved : ℤ → Option ℤ → ℤ
+moved now None = now
+moved now (Some moment) = moment
+
+-- the machine without documents, at moment 0
+abbrev pub empty_machine : Machine
+empty_machine = record { now = pos 0; documents = [] }
+
+-- what a unit leaves, and what an event leaves behind its step: a moment is followed by no unit
+unfoldable pub unit : Machine → Machine
+unit machine = machine
+
+abbrev pub rest_of : Event → Machine → Machine
+rest_of (Moment text) machine = machine
+rest_of (Request line body) machine = unit machine
+
+-- the machine's reply to an event, and its step
+abbrev pub reply_of : Machine → Event → Option Reply
+reply_of machine (Moment text) = moment_reply (not_before machine.now (moment_in text))
+reply_of machine (Request line body) = Some (reply_to machine.documents line body)
+
+abbrev pub stepped_of : Machine → Event → Machine
+stepped_of machine (Moment text) = record { now = moved machine.now (not_before machine.now (moment_in text)); documents = machine.documents }
+stepped_of machine (Request line body) = record { now = machine.now; documents = after machine.documents line body }
+
+unfoldable pub script_play : Play Machine
+script_play machine event = record {
+  reply = option_map reply_line (reply_of machine event);
+  stepped = stepped_of machine event;
+  after = rest_of event (stepped_of machine event);
+  wrote = false;
+}

@@ -1,8 +1,8 @@
 pub mod Ahead
 pub mod Documents
+pub mod Ends
 pub mod Errors
 pub mod Limits
-pub mod Progress
-pub mod Replies
+pub mod Play
 pub mod Script
 pub mod Words

@@ -1,28 +1,37 @@
 -- The lengths that a script may have.
-use Rattle.std.specs.Prelude.{ℕ, ◌+◌, List, length, Bool, false, ◌||◌, nat_lt}
-use Rattle.std.specs.List.{list_any}
+use Rattle.std.specs.Prelude.{ℕ, ◌+◌, List, [], ◌∷◌, ◌++◌, length, Bool, false, ◌||◌, nat_lt, if◌then◌else◌}
 use Rattle.std.specs.Io.BufRead.{strip_last}
-use Rattle.edge_face.specs.Lines.{pieces_of, line_limit, input_limit}
-use Rattle.tsds_cli.specs.declared.script.Event.{Event}
-use Rattle.tsds_cli.specs.Script.{lines_of, events_from}
-
--- how many bytes a body may have
-abbrev pub body_limit : ℕ
-body_limit = 67108864
+use Rattle.edge_face.specs.Limits.{line_limit, input_limit, body_limit}
+use Rattle.edge_face.specs.Lines.{pieces_of, line_of}
+use Rattle.tsds_cli.specs.Script.{Event}
+use Rattle.tsds_cli.specs.Script.{Place, between, within, closes, next_place, at_end}
 
 -- a line with more bytes than it may have, before its newline or the end
 unfoldable pub is_long_piece : List ℕ → Bool
 is_long_piece piece = nat_lt line_limit (length (strip_last 10 piece))
 
-abbrev pub is_long_body : Event → Bool
-is_long_body event = nat_lt body_limit (length event.body)
+abbrev pub is_long_place : Place → Bool
+is_long_place between = false
+is_long_place (within request body) = nat_lt body_limit (length body)
 
--- these bytes, which follow so many others of the script, have a line or a body that is too long, or reach past the
--- length of a script
-abbrev pub is_long_from : Bool → ℕ → List ℕ → Bool
-is_long_from in_body before bytes =
-    list_any is_long_piece (pieces_of bytes) || (nat_lt input_limit (before + length bytes) || list_any is_long_body (events_from in_body (lines_of bytes)))
+-- a piece, behind so many bytes, that passes a length: of a line, of the script, or of the body that it belongs to
+abbrev pub is_over : Place → ℕ → List ℕ → Bool
+is_over place before piece = is_long_piece piece || (nat_lt input_limit (before + length piece) || is_long_place (next_place place (line_of piece)))
 
--- a script passes one of its lengths
+-- some piece passes a length
+abbrev pub long_from : Place → ℕ → List (List ℕ) → Bool
+long_from place before [] = false
+long_from place before (piece ∷ pieces) = is_over place before piece || long_from (next_place place (line_of piece)) (before + length piece) pieces
+
+-- the events before the first piece that does
+abbrev pub fine_from : Place → ℕ → List (List ℕ) → List Event
+fine_from place before [] = at_end place
+fine_from place before (piece ∷ pieces) =
+    if is_over place before piece then [] else closes place (line_of piece) ++ fine_from (next_place place (line_of piece)) (before + length piece) pieces
+
+-- a script passes one of its lengths, and the events before it does
 abbrev pub is_too_long : List ℕ → Bool
-is_too_long bytes = is_long_from false 0 bytes
+is_too_long bytes = long_from between 0 (pieces_of bytes)
+
+abbrev pub fine_of : List ℕ → List Event
+fine_of bytes = fine_from between 0 (pieces_of bytes)

@@ -1,9 +1,10 @@
 //! The machine: one list of documents.
 ghost use Rattle.std.specs.Prelude.{◌≡◌, ◌∷◌, ◌++◌, [], List, Bool, Some, None, Option, IfOk, OnOk, map};
 ghost use Rattle.std.specs.List.{list_any};
-ghost use Rattle.std.specs.Prelude.{length};
+ghost use Rattle.std.specs.Prelude.{length, take};
 ghost use Rattle.serde_json.specs.View.{view};
-ghost use Rattle.tsds_cli.specs.Documents.{document_of, is_at, outcome_from, added_from, outcomes_of, documents_after, is_refused, is_instant as instant_test, tree_document as document_in, whole_at as whole_number};
+ghost use Rattle.tsds_cli.specs.Documents.{document_of, is_at, outcome_from, added_from, outcomes_of, documents_after, is_refused};
+ghost use Rattle.tsds_cli.specs.Documents.{is_instant as instant_test, tree_document as document_in, whole_at as whole_number};
 
 use edge_face::{NoMemory, Text};
 use json_walk::{NotJson, has_names, read_line, whole};
@@ -113,6 +114,13 @@ impl Documents {
         self.rows.len()
     }
 
+    /// Lets all but the first documents go.
+    pub fn keep_first(&mut self, count: usize)
+        ensures { self.new ≡ take count self.old }
+    {
+        self.rows.truncate(count);
+    }
+
     /// Whether a document of this host and time is there.
     fn holds(&self, document: &Document) -> bool
         ensures { result ≡ list_any (is_at document.now.host document.now.time) self.now }
@@ -124,6 +132,7 @@ impl Documents {
     pub fn put(&mut self, alloc: Global, source: &[u8]) -> Result<Outcome, NoMemory>
         ensures outcome { IfOk result (λ outcome. outcome ≡ outcome_from self.old (document_of source.now)) }
         ensures after { OnOk result (self.new ≡ added_from self.old (document_of source.now)) }
+        ensures front { take (length self.old) self.new ≡ self.old }
     {
         let Some(document) = read_document(alloc, source)? else {
             return Ok(Outcome::NotBuilt);

@@ -6,4 +6,4 @@ mod machine;
 mod program;
 mod script;
 
-pub use program::{status_text, top};
+pub use program::{NO_MEMORY, USAGE, status_text, top};

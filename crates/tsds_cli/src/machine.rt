@@ -1,15 +1,20 @@
 //! Requests and their replies.
-ghost use Rattle.std.specs.Prelude.{◌≡◌, ◌∷◌, ◌++◌, [], List, Bool, Some, None, Option, IfOk, OnOk, OnErr, map, length, bytes_eq, codes, pos, ℕ, ◌==◌};
+ghost use Rattle.std.specs.Prelude.{◌≡◌, false, ◌∷◌, ◌++◌, [], List, Bool, Some, None, Option, IfOk, OnOk, OnErr, map, length, take, bytes_eq, codes, pos, ℕ, ◌==◌};
 ghost use Rattle.std.specs.Option.{option_map};
 ghost use Rattle.std.specs.List.{list_any, slice_split};
+ghost use Rattle.time_text.specs.Instant.{instant_of as instant};
 ghost use Rattle.reply_json.specs.declared.out.Out.{Out as tree_type};
-ghost use Rattle.tsds_cli.specs.Documents.{outcomes_of, documents_after, sources_of, bulk_sources, item_of, refused_item as refused_item_of, is_refused, reply_line, not_built, count_reply, bulk_reply, bulk_tree as bulk_tree_of, asked_by as asked_by_line, bulk_to, bulk_after, reply_to, after};
+ghost use Rattle.tsds_cli.specs.Ahead.{event_in};
+ghost use Rattle.tsds_cli.specs.Documents.{outcomes_of, documents_after, sources_of, bulk_sources, item_of, refused_item as refused_item_of, is_refused, reply_line, not_built, bad_moment};
+ghost use Rattle.tsds_cli.specs.Documents.{count_reply, bulk_reply, bulk_tree as bulk_tree_of, asked_by as asked_by_line, bulk_to, bulk_after, reply_to, after};
+ghost use Rattle.tsds_cli.specs.Documents.{moment_in, unless_earlier as kept_unless_earlier, not_before, moment_reply, moved, empty_machine, script_play, rest_of};
 
 use crate::documents::{Documents, Outcome};
-use crate::script::Event;
+use crate::script::{Heard, Opening};
 use edge_face::NoMemory;
 use reply_json::{Members, Out, error_reply, print};
 use std::alloc::{AllocError, Global};
+use time_text::read_instant;
 
 /// The parts between a body's newlines. The last one follows the last newline.
 fn parts<'a>(alloc: Global, body: &'a [u8]) -> Result<Vec<&'a [u8]>, AllocError>
@@ -102,35 +107,41 @@ fn item(alloc: Global, outcome: Outcome) -> Result<Out, NoMemory>
     }
 }
 
+/// A reply: a status and a tree.
+#[derive(Drop)]
+pub struct Reply {
+    pub status: u16,
+    pub tree: Out,
+}
+
 /// Appends a reply in one line: its status, a space, its text and a newline.
-fn put_reply(status: u16, tree: &Out, into: &mut Vec<u8>) -> Result<(), NoMemory>
-    ensures { OnOk result (into.new.items ≡ into.old.items ++ reply_line status tree.now) }
+#[tactic(auto, unfolding(crate::specs::Documents::reply_line))]
+pub fn print_reply(reply: &Reply, into: &mut Vec<u8>) -> Result<(), NoMemory>
+    ensures { OnOk result (into.new.items ≡ into.old.items ++ reply_line reply.now) }
 {
-    into.extend_from_slice(itoa::Buffer::new().format(status).as_bytes())?;
+    into.extend_from_slice(itoa::Buffer::new().format(reply.status).as_bytes())?;
     into.push(b' ')?;
-    print(tree, into)?;
+    print(&reply.tree, into)?;
     into.push(b'\n')?;
     Ok(())
 }
 
 #[tactic(auto, unfolding(crate::specs::Documents::not_built))]
-fn put_not_built(alloc: Global, into: &mut Vec<u8>) -> Result<(), NoMemory>
-    ensures { OnOk result (into.new.items ≡ into.old.items ++ not_built) }
+fn not_built_reply(alloc: Global) -> Result<Reply, NoMemory>
+    ensures { IfOk result (λ r. r ≡ not_built) }
 {
     let tree = error_reply(alloc, 400, "not_built_exception", "not built")?;
-    put_reply(400, &tree, into)?;
-    Ok(())
+    Ok(Reply { status: 400, tree })
 }
 
 #[tactic(auto, unfolding(crate::specs::Documents::count_reply))]
-fn put_count(alloc: Global, count: usize, into: &mut Vec<u8>) -> Result<(), NoMemory>
-    ensures { OnOk result (into.new.items ≡ into.old.items ++ count_reply count) }
+fn reply_of_count(alloc: Global, count: usize) -> Result<Reply, NoMemory>
+    ensures { IfOk result (λ r. r ≡ count_reply count) }
 {
     let tree = Members::new(alloc)
         .with("count", Out::Num(count as i128))?
         .object();
-    put_reply(200, &tree, into)?;
-    Ok(())
+    Ok(Reply { status: 200, tree })
 }
 
 /// What became of the sources of a bulk request, and its items.
@@ -141,6 +152,7 @@ struct Taken {
 }
 
 /// Takes the sources of a bulk request from left to right.
+#[tactic(auto, using(crate::proofs::FrontLemmas::still_front))]
 fn take_sources(
     alloc: Global,
     documents: &mut Documents,
@@ -149,6 +161,7 @@ fn take_sources(
     ensures items { IfOk result (λ taken. taken.items.items ≡ map item_of (outcomes_of documents.old (map (λ s. s.now) sources.now))) }
     ensures errors { IfOk result (λ taken. taken.errors ≡ list_any is_refused (outcomes_of documents.old (map (λ s. s.now) sources.now))) }
     ensures after { OnOk result (documents.new ≡ documents_after documents.old (map (λ s. s.now) sources.now)) }
+    ensures front { take (length documents.old) documents.new ≡ documents.old }
 {
     let mut items = Vec::new(alloc);
     let mut errors = false;
@@ -160,20 +173,34 @@ fn take_sources(
     Ok(Taken { items, errors })
 }
 
-/// Answers a bulk request whose body has these sources.
-fn put_bulk(
+/// Takes the sources of a bulk request, and makes its reply.
+#[tactic(auto, unfolding(crate::specs::Documents::bulk_reply))]
+fn take_bulk(alloc: Global, documents: &mut Documents, sources: &[&[u8]]) -> Result<Reply, NoMemory>
+    ensures reply { IfOk result (λ r. r ≡ bulk_reply (outcomes_of documents.old (map (λ s. s.now) sources.now))) }
+    ensures after { OnOk result (documents.new ≡ documents_after documents.old (map (λ s. s.now) sources.now)) }
+    ensures front { take (length documents.old) documents.new ≡ documents.old }
+{
+    let Taken { items, errors } = take_sources(alloc, documents, sources)?;
+    let tree = bulk_tree(alloc, errors, items)?;
+    Ok(Reply { status: 200, tree })
+}
+
+/// The same, and all or none of the sources are taken.
+fn take_whole_bulk(
     alloc: Global,
     documents: &mut Documents,
     sources: &[&[u8]],
-    into: &mut Vec<u8>,
-) -> Result<(), NoMemory>
-    ensures reply { OnOk result (into.new.items ≡ into.old.items ++ bulk_reply (outcomes_of documents.old (map (λ s. s.now) sources.now))) }
+) -> Result<Reply, NoMemory>
+    ensures reply { IfOk result (λ r. r ≡ bulk_reply (outcomes_of documents.old (map (λ s. s.now) sources.now))) }
     ensures after { OnOk result (documents.new ≡ documents_after documents.old (map (λ s. s.now) sources.now)) }
+    ensures refused { OnErr result (documents.new ≡ documents.old) }
 {
-    let taken = take_sources(alloc, documents, sources)?;
-    let tree = bulk_tree(alloc, taken.errors, taken.items)?;
-    put_reply(200, &tree, into)?;
-    Ok(())
+    let held = documents.len();
+    let reply = take_bulk(alloc, documents, sources);
+    if reply.is_err() {
+        documents.keep_first(held);
+    }
+    reply
 }
 
 /// The reply to a bulk request.
@@ -189,24 +216,19 @@ fn bulk_tree(alloc: Global, errors: bool, items: Vec<Out>) -> Result<Out, NoMemo
 }
 
 /// Answers a bulk request.
-fn answer_bulk(
-    alloc: Global,
-    documents: &mut Documents,
-    body: &[u8],
-    into: &mut Vec<u8>,
-) -> Result<(), NoMemory>
-    ensures reply { OnOk result (into.new.items ≡ into.old.items ++ bulk_to documents.old (bulk_sources body.now)) }
+fn answer_bulk(alloc: Global, documents: &mut Documents, body: &[u8]) -> Result<Reply, NoMemory>
+    ensures reply { IfOk result (λ r. r ≡ bulk_to documents.old (bulk_sources body.now)) }
     ensures after { OnOk result (documents.new ≡ bulk_after documents.old (bulk_sources body.now)) }
+    ensures refused { OnErr result (documents.new ≡ documents.old) }
 {
     let parts = parts(alloc, body)?;
     match sources_in(alloc, parts.as_slice())? {
-        Some(sources) if !sources.is_empty() => put_bulk(
+        Some(sources) if !sources.is_empty() => take_whole_bulk(
             alloc,
             documents,
             sources.as_slice(),
-            into,
         ),
-        _ => put_not_built(alloc, into),
+        _ => not_built_reply(alloc),
     }
 }
 
@@ -231,20 +253,135 @@ fn asked_by(line: &[u8]) -> Asked
     }
 }
 
-/// Answers a request: appends the line of its reply, and goes on to the documents after it.
+/// Answers a request, and goes on to the documents after it.
 #[tactic(auto, unfolding(crate::specs::Documents::reply_to, crate::specs::Documents::after))]
-pub fn answer(
+fn answer(
     alloc: Global,
     documents: &mut Documents,
-    event: &Event,
-    into: &mut Vec<u8>,
-) -> Result<(), NoMemory>
-    ensures reply { OnOk result (into.new.items ≡ into.old.items ++ reply_to documents.old event.now) }
-    ensures after { OnOk result (documents.new ≡ after documents.old event.now) }
+    line: &[u8],
+    body: &[u8],
+) -> Result<Reply, NoMemory>
+    ensures reply { IfOk result (λ r. r ≡ reply_to documents.old line.now body.now) }
+    ensures after { OnOk result (documents.new ≡ after documents.old line.now body.now) }
+    ensures refused { OnErr result (documents.new ≡ documents.old) }
 {
-    match asked_by(event.line.as_slice()) {
-        Asked::Count => put_count(alloc, documents.len(), into),
-        Asked::Bulk => answer_bulk(alloc, documents, event.body.as_slice(), into),
-        Asked::Other => put_not_built(alloc, into),
+    match asked_by(line) {
+        Asked::Count => reply_of_count(alloc, documents.len()),
+        Asked::Bulk => answer_bulk(alloc, documents, body),
+        Asked::Other => not_built_reply(alloc),
+    }
+}
+
+/// The machine: the documents, and the present moment.
+#[derive(Debug, Drop)]
+pub struct Machine {
+    pub now: i64,
+    pub documents: Documents,
+}
+
+impl Machine {
+    /// The machine without documents, at moment 0.
+    pub fn new(alloc: Global) -> Machine
+        ensures { result ≡ empty_machine }
+    {
+        Machine {
+            now: 0,
+            documents: Documents::new(alloc),
+        }
+    }
+}
+
+/// The moment that a text says.
+fn moment_of(text: &[u8]) -> Option<i64>
+    ensures { result ≡ moment_in text.now }
+{
+    match str::from_utf8(text) {
+        Ok(text) => instant_of(text),
+        Err(_) => None,
+    }
+}
+
+fn instant_of(text: &str) -> Option<i64>
+    ensures { result ≡ instant text.now }
+{
+    match read_instant(text) {
+        Ok(instant) => Some(instant),
+        Err(_) => None,
+    }
+}
+
+/// The same, unless it is earlier than the present.
+fn next_moment(now: i64, text: &[u8]) -> Option<i64>
+    ensures { result ≡ not_before now (moment_in text.now) }
+{
+    match moment_of(text) {
+        Some(moment) => unless_earlier(now, moment),
+        None => None,
+    }
+}
+
+fn unless_earlier(now: i64, moment: i64) -> Option<i64>
+    ensures { result ≡ kept_unless_earlier now moment }
+{
+    if now <= moment { Some(moment) } else { None }
+}
+
+#[tactic(auto, unfolding(crate::specs::Documents::bad_moment))]
+fn bad_moment_reply(alloc: Global) -> Result<Reply, NoMemory>
+    ensures { IfOk result (λ r. r ≡ bad_moment) }
+{
+    let tree = error_reply(alloc, 400, "illegal_argument_exception", "bad moment")?;
+    Ok(Reply { status: 400, tree })
+}
+
+/// Goes on to the moment that a text says, or refuses it.
+fn move_on(alloc: Global, now: &mut i64, text: &[u8]) -> Result<Option<Reply>, NoMemory>
+    ensures reply { IfOk result (λ r. r ≡ moment_reply (not_before now.old (moment_in text.now))) }
+    ensures moved { OnOk result (now.new ≡ moved now.old (not_before now.old (moment_in text.now))) }
+    ensures refused { OnErr result (now.new ≡ now.old) }
+{
+    match next_moment(*now, text) {
+        Some(moment) => {
+            *now = moment;
+            Ok(None)
+        }
+        None => {
+            let reply = bad_moment_reply(alloc)?;
+            Ok(Some(reply))
+        }
+    }
+}
+
+/// Makes the step of an event. Without memory nothing is changed.
+#[tactic(auto, unfolding(crate::specs::Documents::script_play))]
+pub fn act(alloc: Global, machine: &mut Machine, heard: &Heard) -> Result<Option<Reply>, NoMemory>
+    ensures reply { IfOk result (λ r. option_map reply_line r ≡ (script_play machine.old (event_in heard.now)).reply) }
+    ensures stepped { OnOk result (machine.new ≡ (script_play machine.old (event_in heard.now)).stepped) }
+    ensures after { OnOk result ((script_play machine.old (event_in heard.now)).after ≡ rest_of (event_in heard.now) machine.new) }
+    ensures wrote { (script_play machine.old (event_in heard.now)).wrote ≡ false }
+    ensures refused { OnErr result (machine.new ≡ machine.old) }
+{
+    match heard.opening {
+        Opening::Moment => move_on(alloc, &mut machine.now, heard.line.as_slice()),
+        Opening::Request => {
+            let reply = answer(
+                alloc,
+                &mut machine.documents,
+                heard.line.as_slice(),
+                heard.body.as_slice(),
+            )?;
+            Ok(Some(reply))
+        }
+    }
+}
+
+/// Makes the unit behind an event, where it has one. Without memory nothing is changed.
+#[tactic(auto, unfolding(crate::specs::Documents::unit))]
+pub fn go_on(_machine: &mut Machine, heard: &Heard) -> Result<(), NoMemory>
+    ensures after { OnOk result (_machine.new ≡ rest_of (event_in heard.now) _machine.old) }
+    ensures refused { OnErr result (_machine.new ≡ _machine.old) }
+{
+    match heard.opening {
+        Opening::Moment | Opening::Request => Ok(()),
     }
 }

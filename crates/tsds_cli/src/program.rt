@@ -1,18 +1,27 @@
 //! The top call of the program.
-ghost use Rattle.std.specs.Prelude.{◌≡◌, ◌↔◌, ◌∷◌, ◌++◌, [], List, ℕ, Bool, true, false, Some, None, Option, IfOk, IfErr, IfSome, OnOk, OnErr, Ok, Err, map, codes, Contains, string_bytes, ◌≤◌};
+ghost use Rattle.std.specs.Prelude.{◌≡◌, ◌≢◌, ◌↔◌, ◌⊎◌, ◌∷◌, ◌++◌, [], List, ℕ, Bool, true, false, Some, None, Option, IfOk, IfErr, IfSome, OnOk, OnErr, Ok, Err};
+ghost use Rattle.std.specs.Prelude.{map, codes, Contains, string_bytes, ◌≤◌};
+ghost use Rattle.std.specs.Option.{option_map};
 ghost use Rattle.edge_face.specs.Contents.{appended, Rose};
+ghost use Rattle.tsds_cli.specs.Script.{events_of};
 ghost use Rattle.tsds_cli.specs.Limits.{is_too_long};
-ghost use Rattle.tsds_cli.specs.Replies.{replies_of, GivesPart};
-ghost use Rattle.tsds_cli.specs.Progress.{IsPut};
-ghost use Rattle.tsds_cli.specs.Documents.{reply_to, after};
+ghost use Rattle.tsds_cli.specs.Play.{PutAll, IsBehind, text_of};
+ghost use Rattle.tsds_cli.specs.Ends.{Ends, EndsBy, Broke, IsPut};
+ghost use Rattle.tsds_cli.specs.Ahead.{event_in};
+ghost use Rattle.tsds_cli.specs.Documents.{script_play, empty_machine, reply_line};
 ghost use Rattle.tsds_cli.specs.Words.{is_run, status_of};
 
-use crate::documents::Documents;
-use crate::machine::answer;
-use crate::script::{ScriptError, next_event};
+use crate::machine::{Machine, Reply, act, go_on, print_reply};
+use crate::script::{Heard, ScriptError, next_event};
 use edge_face::{LineReader, NoMemory, Sink, Source, put_all};
 use std::alloc::Global;
 use thiserror::Error;
+
+/// The status where the words of the command line are no command.
+pub const USAGE: u8 = 2;
+
+/// The status where there was no memory.
+pub const NO_MEMORY: u8 = 3;
 
 /// Why a run ends before the end of its script.
 #[derive(Clone, Copy, Debug, PartialEq, Eq, Error)]
@@ -59,7 +68,7 @@ impl RunError {
         ensures { result ≡ status_of self }
     {
         match self {
-            RunError::NoMemory => 3,
+            RunError::NoMemory => NO_MEMORY,
             RunError::Read => 4,
             RunError::Write => 7,
             RunError::TooLong => 8,
@@ -81,29 +90,84 @@ fn put_reply<K: Sink>(sink: &mut K, reply: &[u8]) -> Result<(), RunError>
     }
 }
 
+/// Prints a reply, where there is one.
+fn print_some(reply: &Option<Reply>, into: &mut Vec<u8>) -> Result<(), NoMemory>
+    ensures { OnOk result (into.new.items ≡ into.old.items ++ text_of (option_map reply_line reply.now)) }
+{
+    match reply {
+        None => Ok(()),
+        Some(reply) => print_reply(reply, into),
+    }
+}
+
+/// Does an event: its step, its reply and its unit. The reply's text is made in `text`.
+fn do_event<K: Sink>(
+    alloc: Global,
+    machine: &mut Machine,
+    sink: &mut K,
+    heard: &Heard,
+    text: &mut Vec<u8>,
+) -> Result<(), RunError>
+    ensures after { OnOk result (machine.new ≡ (script_play machine.old (event_in heard.now)).after) }
+    ensures put { OnOk result (K.given sink.new ≡ appended (K.given sink.old) (text_of (script_play machine.old (event_in heard.now)).reply)) }
+    ensures broke { IfErr result (λ e. Broke script_play machine.old machine.new (event_in heard.now) e (K.given sink.old) (K.given sink.new)) }
+    ensures write { result ≡ Err RunError.Write → Rose (K.faults sink.old) (K.faults sink.new) }
+    ensures faults { K.faults sink.old ≤ K.faults sink.new }
+{
+    text.clear();
+    let reply = act(alloc, machine, heard)?;
+    print_some(&reply, text)?;
+    put_reply(sink, text.as_slice())?;
+    go_on(machine, heard)?;
+    Ok(())
+}
+
 /// Runs the script on the source, and writes each reply to the sink.
-fn run<S: Source, K: Sink>(alloc: Global, source: &mut S, sink: &mut K) -> Result<(), RunError>
-    ensures done { OnOk result (IfSome (S.left source.old) (λ script. K.given sink.new ≡ appended (K.given sink.old) (replies_of reply_to after [] script))) }
-    ensures drained { OnOk result (IfSome (S.left source.old) (λ _. S.left source.new ≡ Some [])) }
+fn run<S: Source, K: Sink>(
+    alloc: Global,
+    machine: &mut Machine,
+    source: &mut S,
+    sink: &mut K,
+) -> Result<(), RunError>
+    ensures done { OnOk result (IfSome (S.left source.old) (λ script. PutAll script_play machine.old (K.given sink.old) (K.given sink.new) (events_of script))) }
+    ensures state { OnOk result (IfSome (S.left source.old) (λ script. IsBehind script_play machine.old machine.new (events_of script))) }
     ensures short { OnOk result (IfSome (S.left source.old) (λ script. is_too_long script ≡ false)) }
-    ensures part { IfSome (S.left source.old) (λ script. GivesPart (replies_of reply_to after [] script) (K.given sink.old) (K.given sink.new)) }
+    ensures drained { OnOk result (IfSome (S.left source.new) (λ rest. rest ≡ [])) }
+    ensures refused { IfErr result (λ e. EndsBy script_play machine.old machine.new e (S.left source.old) (S.left source.new) (K.given sink.old) (K.given sink.new)) }
     ensures read { result ≡ Err RunError.Read → Rose (S.faults source.old) (S.faults source.new) }
     ensures write { result ≡ Err RunError.Write → Rose (K.faults sink.old) (K.faults sink.new) }
-    ensures long { result ≡ Err RunError.TooLong → IfSome (S.left source.old) (λ script. is_too_long script ≡ true) }
     ensures faults { S.faults source.old ≤ S.faults source.new }
     ensures sink_faults { K.faults sink.old ≤ K.faults sink.new }
 {
     let mut reader = LineReader::new(alloc)?;
-    let mut documents = Documents::new(alloc);
-    let mut reply = Vec::new(alloc);
+    let mut heard = Heard::new(alloc);
+    let mut text = Vec::new(alloc);
     'events: loop {
-        let Some(event) = next_event(alloc, &mut reader, source)? else {
+        let more = next_event(&mut reader, source, &mut heard)?;
+        if !more {
             return Ok(());
-        };
-        reply.clear();
-        answer(alloc, &mut documents, &event, &mut reply)?;
-        put_reply(sink, reply.as_slice())?;
+        }
+        do_event(alloc, machine, sink, &heard, &mut text)?;
     }
+}
+
+/// Runs the script on the empty machine.
+fn run_empty<S: Source, K: Sink>(
+    alloc: Global,
+    source: &mut S,
+    sink: &mut K,
+) -> Result<(), RunError>
+    ensures done { OnOk result (IfSome (S.left source.old) (λ script. PutAll script_play empty_machine (K.given sink.old) (K.given sink.new) (events_of script))) }
+    ensures short { OnOk result (IfSome (S.left source.old) (λ script. is_too_long script ≡ false)) }
+    ensures drained { OnOk result (IfSome (S.left source.new) (λ rest. rest ≡ [])) }
+    ensures refused { IfErr result (λ e. Ends script_play empty_machine e (S.left source.old) (S.left source.new) (K.given sink.old) (K.given sink.new)) }
+    ensures read { result ≡ Err RunError.Read → Rose (S.faults source.old) (S.faults source.new) }
+    ensures write { result ≡ Err RunError.Write → Rose (K.faults sink.old) (K.faults sink.new) }
+    ensures faults { S.faults source.old ≤ S.faults source.new }
+    ensures sink_faults { K.faults sink.old ≤ K.faults sink.new }
+{
+    let mut machine = Machine::new(alloc);
+    run(alloc, &mut machine, source, sink)
 }
 
 /// Whether the words are `run` alone. The first word is the program's name.
@@ -125,23 +189,29 @@ pub fn top<S: Source, K: Sink>(alloc: Global, words: &[String], source: &mut S, 
     ensures known { Contains (0 ∷ 2 ∷ 3 ∷ 4 ∷ 7 ∷ 8 ∷ []) result }
 
     // Once all is done, the source is at its end and what was written is exactly the replies of the plain machine.
-    ensures done { result ≡ 0 → IfSome (S.left source.old) (λ script. K.given sink.new ≡ appended (K.given sink.old) (replies_of reply_to after [] script)) }
-    ensures drained { result ≡ 0 → IfSome (S.left source.old) (λ _. S.left source.new ≡ Some []) }
+    ensures done { result ≡ 0 → IfSome (S.left source.old) (λ script. PutAll script_play empty_machine (K.given sink.old) (K.given sink.new) (events_of script)) }
+    ensures drained { result ≡ 0 → IfSome (S.left source.new) (λ rest. rest ≡ []) }
 
-    // Whatever the status, what was written is a first part of these replies.
-    ensures part { IfSome (S.left source.old) (λ script. GivesPart (replies_of reply_to after [] script) (K.given sink.old) (K.given sink.new)) }
+    // Under any other status of a run, what was written is told by the events that were done.
+    ensures memory { result ≡ 3 → Ends script_play empty_machine RunError.NoMemory (S.left source.old) (S.left source.new) (K.given sink.old) (K.given sink.new) }
+    ensures read { result ≡ 4 → Rose (S.faults source.old) (S.faults source.new)
+        × Ends script_play empty_machine RunError.Read (S.left source.old) (S.left source.new) (K.given sink.old) (K.given sink.new) }
+    ensures write { result ≡ 7 → Rose (K.faults sink.old) (K.faults sink.new)
+        × Ends script_play empty_machine RunError.Write (S.left source.old) (S.left source.new) (K.given sink.old) (K.given sink.new) }
+    ensures long { result ≡ 8 → Ends script_play empty_machine RunError.TooLong (S.left source.old) (S.left source.new) (K.given sink.old) (K.given sink.new) }
+    ensures short { result ≡ 0 → IfSome (S.left source.old) (λ script. is_too_long script ≡ false) }
+
+    // With the words of a run, a told source that holds its lengths and devices whose counts stay, the run is done unless memory is wanting.
+    ensures complete { (script : List ℕ) → S.left source.old ≡ Some script → is_too_long script ≡ false → is_run (map string_bytes words.now) ≡ true
+        → (Rose (S.faults source.old) (S.faults source.new) → ⊥) → (Rose (K.faults sink.old) (K.faults sink.new) → ⊥) → (result ≡ 0) ⊎ (result ≡ 3) }
 
     ensures usage { (result ≡ 2) ↔ (is_run (map string_bytes words.now) ≡ false) }
     ensures untouched { result ≡ 2 → (source.new ≡ source.old) × (sink.new ≡ sink.old) }
-    ensures read { result ≡ 4 → Rose (S.faults source.old) (S.faults source.new) }
-    ensures write { result ≡ 7 → Rose (K.faults sink.old) (K.faults sink.new) }
-    ensures long { result ≡ 8 → IfSome (S.left source.old) (λ script. is_too_long script ≡ true) }
-    ensures short { result ≡ 0 → IfSome (S.left source.old) (λ script. is_too_long script ≡ false) }
 {
     if !are_run(words) {
-        return 2;
+        return USAGE;
     }
-    match run(alloc, source, sink) {
+    match run_empty(alloc, source, sink) {
         Ok(()) => 0,
         Err(error) => error.status(),
     }

@@ -1,25 +1,41 @@
 //! Scripts, read request by request.
-ghost use Rattle.std.specs.Prelude.{◌≡◌, ◌≢◌, ℕ, ◌+◌, ◌^◌, ◌<◌, ◌≤◌, ◌++◌, ◌∷◌, [], List, Bool, true, false, ◌||◌, nat_lt, length, IfOk, IfErr, IfSome, IfNone, OnErr, OnOk, Ok, Err, None, Some};
+ghost use Rattle.std.specs.Prelude.{◌≡◌, ◌≢◌, ℕ, ◌+◌, ◌^◌, ◌<◌, ◌≤◌, ◌++◌, ◌∷◌, [], List, Bool, true, false, length, drop, IfOk, IfErr, IfSome, IfNone, OnErr, OnOk, Ok, Err, None, Some};
 ghost use Rattle.edge_face.specs.Contents.{Rose};
-ghost use Rattle.edge_face.specs.Reading.{left_of};
-ghost use Rattle.std.specs.Option.{option_map};
-ghost use Rattle.edge_face.specs.Lines.{input_limit};
-ghost use Rattle.tsds_cli.specs.Limits.{body_limit};
-ghost use Rattle.tsds_cli.specs.Script.{is_skipped as skips, is_empty};
-ghost use Rattle.tsds_cli.specs.Ahead.{ahead_of, ahead_of_body, in_body_of, behind, behind_body, IsAtEnd};
+ghost use Rattle.edge_face.specs.Waiting.{KnowsEnd};
+ghost use Rattle.edge_face.specs.Limits.{body_limit, input_limit};
+ghost use Rattle.tsds_cli.specs.Script.{Request, is_skipped as skips, is_empty, is_moment, between, within, closes, next_place};
+ghost use Rattle.tsds_cli.specs.Ahead.{Passed, IsAtEnd, Stopped, opened, opens, event_in};
 
-use edge_face::{Bytes, LineError, LineReader, NoMemory, Source};
+use edge_face::{BODY_LIMIT, LineError, LineReader, NoMemory, Source};
 use std::alloc::{AllocError, Global};
 use thiserror::Error;
 
-/// The most bytes that a body may have.
-pub const BODY_LIMIT: usize = 67_108_864;
+/// What a line between events opens.
+#[derive(Clone, Copy, Debug, PartialEq, Eq)]
+pub enum Opening {
+    /// A moment line is an event by itself.
+    Moment,
+    /// A request line, whose body follows.
+    Request,
+}
 
-/// A request line and its body.
+/// An event of a script, in buffers that are used again for the next.
 #[derive(Debug, Drop)]
-pub struct Event {
-    pub line: Bytes,
-    pub body: Bytes,
+pub struct Heard {
+    pub opening: Opening,
+    /// The text of a moment line behind its `@ `, or the request line.
+    pub line: Vec<u8>,
+    pub body: Vec<u8>,
+}
+
+impl Heard {
+    pub fn new(alloc: Global) -> Heard {
+        Heard {
+            opening: Opening::Moment,
+            line: Vec::new(alloc),
+            body: Vec::new(alloc),
+        }
+    }
 }
 
 /// Why a script gives no further event.
@@ -80,31 +96,64 @@ fn is_skipped(line: &[u8]) -> bool
     }
 }
 
-/// Reads over what stands between requests, up to a request line. None at the end of the script.
-fn request_line<S: Source>(
-    alloc: Global,
+/// The text of a moment line.
+fn moment_text(line: &[u8]) -> Option<&[u8]>
+    ensures text { IfSome result (λ text. text.now ≡ drop 2 line.now) }
+    ensures some { IfSome result (λ _. is_moment line.now ≡ true) }
+    ensures none { IfNone result (is_moment line.now ≡ false) }
+{
+    match line {
+        [first, second, text @ ..] if *first == b'@' && *second == b' ' => Some(text),
+        _ => None,
+    }
+}
+
+/// What a line between events opens, where it isn't skipped. Its text is kept in `into`.
+fn read_opening(line: &[u8], into: &mut Vec<u8>) -> Result<Opening, NoMemory>
+    requires { skips line.now ≡ false }
+    ensures events { IfOk result (λ o. opened o into.new.items ≡ closes between line.now) }
+    ensures place { IfOk result (λ o. opens o into.new.items ≡ next_place between line.now) }
+{
+    into.clear();
+    match moment_text(line) {
+        Some(text) => {
+            into.extend_from_slice(text)?;
+            Ok(Opening::Moment)
+        }
+        None => {
+            into.extend_from_slice(line)?;
+            Ok(Opening::Request)
+        }
+    }
+}
+
+/// Reads over what stands between events, up to a line that opens one. None at the end of the script.
+fn next_opening<S: Source>(
     reader: &mut LineReader,
     source: &mut S,
-) -> Result<Option<Bytes>, ScriptError>
-    requires { reader.old.refused ≡ None }
-    ensures line { IfOk result (λ found. IfSome found (λ line. ahead_of false reader.old (S.left source.old) ≡ ahead_of_body line reader.new (S.left source.new))) }
-    ensures none { IfOk result (λ found. IfNone found (IsAtEnd reader.old (S.left source.old) × (left_of reader.new (S.left source.new) ≡ option_map (λ _. []) (left_of reader.old (S.left source.old))))) }
+    into: &mut Vec<u8>,
+) -> Result<Option<Opening>, ScriptError>
+    requires fine { reader.old.refused ≡ None }
+    requires knows { KnowsEnd reader.old.ended (S.left source.old) }
+    ensures found { IfOk result (λ found. IfSome found (λ o. Passed between (opened o into.new.items) (opens o into.new.items) reader.old reader.new (S.left source.old) (S.left source.new))) }
+    ensures none { IfOk result (λ found. IfNone found (IsAtEnd between between reader.old reader.new (S.left source.old) (S.left source.new))) }
+    ensures stopped { IfErr result (λ e. Stopped between e reader.old reader.new (S.left source.old) (S.left source.new)) }
     ensures fine { OnOk result (reader.new.refused ≡ None) }
+    ensures knows { KnowsEnd reader.new.ended (S.left source.new) }
     ensures onward { IfOk result (λ found. IfSome found (λ _. (reader.old.answered < reader.new.answered) × (reader.new.answered ≤ input_limit))) }
-    ensures long { result ≡ Err ScriptError.TooLong → IfSome (ahead_of false reader.old (S.left source.old)) (λ ahead. ahead.long ≡ true) }
     ensures read { result ≡ Err ScriptError.Read → Rose (S.faults source.old) (S.faults source.new) }
     ensures faults { S.faults source.old ≤ S.faults source.new }
 {
-    loop {
+    'lines: loop {
         let piece = reader.find_line(source)?;
         if piece == 0 {
             return Ok(None);
         }
         let line = reader.line(piece);
         if !is_skipped(line) {
-            let line = Bytes::new(alloc, line)?;
+            let opening = read_opening(line, into)?;
             reader.pass(piece);
-            return Ok(Some(line));
+            return Ok(Some(opening));
         }
         reader.pass(piece);
     }
@@ -125,10 +174,10 @@ fn add_line(body: &mut Vec<u8>, line: &[u8]) -> Result<(), ScriptError>
     requires { length body.old.items ≤ body_limit }
     ensures ok { OnOk result (body.new.items ≡ body.old.items ++ (line.now ++ 10 ∷ [])) }
     ensures short { OnOk result (length body.new.items ≤ body_limit) }
-    ensures long { result ≡ Err ScriptError.TooLong → body_limit < length body.old.items + (length line.now + 1) }
+    ensures long { result ≡ Err ScriptError.TooLong → body_limit < length (body.old.items ++ (line.now ++ 10 ∷ [])) }
     ensures read { result ≢ Err ScriptError.Read }
 {
-    if line.len() >= BODY_LIMIT - body.len() {
+    if line.len() as u64 >= BODY_LIMIT - body.len() as u64 {
         return Err(ScriptError::TooLong);
     }
     body.extend_from_slice(line)?;
@@ -136,56 +185,67 @@ fn add_line(body: &mut Vec<u8>, line: &[u8]) -> Result<(), ScriptError>
     Ok(())
 }
 
-/// Reads a body, up to an empty line or the end of the script.
+/// Reads the body of a request line, up to an empty line or the end of the script.
 fn read_body<S: Source>(
-    alloc: Global,
     reader: &mut LineReader,
     source: &mut S,
-) -> Result<Bytes, ScriptError>
-    requires { reader.old.refused ≡ None }
-    ensures body { IfOk result (λ body. in_body_of [] reader.old (S.left source.old) ≡ behind_body body (ahead_of false reader.new (S.left source.new))) }
-    ensures short { IfOk result (λ body. length body ≤ body_limit) }
+    heard: &mut Heard,
+) -> Result<(), ScriptError>
+    requires fine { reader.old.refused ≡ None }
+    requires knows { KnowsEnd reader.old.ended (S.left source.old) }
+    ensures event { OnOk result (Passed (within heard.old.line.items []) (Request heard.old.line.items heard.new.body.items ∷ []) between
+        reader.old reader.new (S.left source.old) (S.left source.new)) }
+    ensures kept { (heard.new.opening ≡ heard.old.opening) × (heard.new.line.items ≡ heard.old.line.items) }
+    ensures stopped { IfErr result (λ e. Stopped (within heard.old.line.items []) e reader.old reader.new (S.left source.old) (S.left source.new)) }
     ensures fine { OnOk result (reader.new.refused ≡ None) }
+    ensures knows { KnowsEnd reader.new.ended (S.left source.new) }
     ensures onward { OnOk result (reader.old.answered ≤ reader.new.answered) }
-    ensures long { result ≡ Err ScriptError.TooLong → IfSome (in_body_of [] reader.old (S.left source.old)) (λ it. (nat_lt body_limit (length it.body) || it.ahead.long) ≡ true) }
     ensures read { result ≡ Err ScriptError.Read → Rose (S.faults source.old) (S.faults source.new) }
     ensures faults { S.faults source.old ≤ S.faults source.new }
 {
-    let mut body = Vec::new(alloc);
-    loop {
+    heard.body.clear();
+    'lines: loop {
         let piece = reader.find_line(source)?;
         if piece == 0 {
-            return Ok(Bytes::from_vec(body));
+            return Ok(());
         }
         let line = reader.line(piece);
         if ends_body(line) {
             reader.pass(piece);
-            return Ok(Bytes::from_vec(body));
+            return Ok(());
         }
-        add_line(&mut body, line)?;
+        add_line(&mut heard.body, line)?;
         reader.pass(piece);
     }
 }
 
-/// The next request of a script, or none at its end.
+/// Reads the next event of a script, and answers whether there is one.
 pub fn next_event<S: Source>(
-    alloc: Global,
     reader: &mut LineReader,
     source: &mut S,
-) -> Result<Option<Event>, ScriptError>
-    requires { reader.old.refused ≡ None }
-    ensures event { IfOk result (λ found. IfSome found (λ event. ahead_of false reader.old (S.left source.old) ≡ option_map (behind event) (ahead_of false reader.new (S.left source.new)))) }
-    ensures none { IfOk result (λ found. IfNone found (IsAtEnd reader.old (S.left source.old))) }
-    ensures drained { IfOk result (λ found. IfNone found (left_of reader.new (S.left source.new) ≡ option_map (λ _. []) (left_of reader.old (S.left source.old)))) }
+    heard: &mut Heard,
+) -> Result<bool, ScriptError>
+    requires fine { reader.old.refused ≡ None }
+    requires knows { KnowsEnd reader.old.ended (S.left source.old) }
+    ensures event { result ≡ Ok true → Passed between (event_in heard.new ∷ []) between reader.old reader.new (S.left source.old) (S.left source.new) }
+    ensures none { result ≡ Ok false → IsAtEnd between between reader.old reader.new (S.left source.old) (S.left source.new) }
+    ensures stopped { IfErr result (λ e. Stopped between e reader.old reader.new (S.left source.old) (S.left source.new)) }
     ensures fine { OnOk result (reader.new.refused ≡ None) }
-    ensures onward { IfOk result (λ found. IfSome found (λ _. (reader.old.answered < reader.new.answered) × (reader.old.answered < input_limit))) }
-    ensures long { result ≡ Err ScriptError.TooLong → IfSome (ahead_of false reader.old (S.left source.old)) (λ ahead. ahead.long ≡ true) }
+    ensures knows { KnowsEnd reader.new.ended (S.left source.new) }
+    ensures onward { result ≡ Ok true → (reader.old.answered < reader.new.answered) × (reader.old.answered < input_limit) }
     ensures read { result ≡ Err ScriptError.Read → Rose (S.faults source.old) (S.faults source.new) }
     ensures faults { S.faults source.old ≤ S.faults source.new }
 {
-    let Some(line) = request_line(alloc, reader, source)? else {
-        return Ok(None);
-    };
-    let body = read_body(alloc, reader, source)?;
-    Ok(Some(Event { line, body }))
+    match next_opening(reader, source, &mut heard.line)? {
+        None => Ok(false),
+        Some(Opening::Moment) => {
+            heard.opening = Opening::Moment;
+            Ok(true)
+        }
+        Some(Opening::Request) => {
+            heard.opening = Opening::Request;
+            read_body(reader, source, heard)?;
+            Ok(true)
+        }
+    }
 }

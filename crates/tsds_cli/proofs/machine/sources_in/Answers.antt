@@ -1,4 +1,4 @@
-use Rattle.std.proofs.Common.{◌≡◌, ◌∙◌, ap, sym, arith}
+use Rattle.std.proofs.Common.{◌∙◌, ap, sym, arith}
 use Rattle.std.proofs.lemmas.List.{map-append}
 use Rattle.tsds_cli.proofs.SourcesLemmas.{texts, no_sources, one_source}
 use Rattle.tsds_cli.proofs.machine.sources_in.Goals as goal

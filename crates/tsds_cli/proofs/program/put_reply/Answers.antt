@@ -1,6 +1,5 @@
-use Rattle.std.proofs.Common.{◌≡◌, take, drop}
+use Rattle.std.proofs.Common.{take, drop}
 use Rattle.std.proofs.lemmas.List.{take-append-drop}
-use Rattle.tsds_cli.specs.Progress.{IsPut}
 use Rattle.tsds_cli.proofs.program.put_reply.Goals as goal
 
 pub returns-in-Err-clause-part : goal.returns-in-Err-clause-part

@@ -1,22 +1,45 @@
-use Rattle.std.proofs.Common.{◌≡◌, ◌∙◌, ◌++◌, ℕ, [], take, drop, ap, sym, subst, arith}
-use Rattle.tsds_cli.specs.Documents.{reply_to, after}
-use Rattle.tsds_cli.proofs.ProgressLemmas.{one_more, part_and_more}
+use Rattle.std.proofs.Common.{Ok, ap, sym, subst, arith}
+use Rattle.edge_face.specs.Reading.{Reading}
+use Rattle.edge_face.specs.Waiting.{KnowsEnd}
+use Rattle.tsds_cli.specs.Ahead.{event_in}
+use Rattle.tsds_cli.specs.Documents.{script_play}
+use Rattle.tsds_cli.specs.Words.{run_error_of}
+use Rattle.tsds_cli.specs.declared.program.RunError.TheVariants.{NoMemory}
+use Rattle.tsds_cli.proofs.RunLemmas.{reached-none, one-more, ends-by, ends-broken, ends-unread, err-ends}
 use Rattle.tsds_cli.proofs.program.run.Goals as goal
 
-pub returns-in_err-put_reply-clause-part : goal.returns-in_err-put_reply-clause-part
-returns-in_err-put_reply-clause-part g c =
-    part_and_more reply_to after [] c.events.documents _ _ _ _ _ _ c.in-Some.event c.as_slice.result.now c.events.invariant.way
-    (rw c.in-Some.is at c.in_ok-event.ensures.event)
-    (c.as_slice.ensures.value ∙ c.in_ok-answer.ensures.reply ∙ ap (λ l. l ++ reply_to c.events.documents c.in-Some.event) c.clear.ensures.items)
-    c.in_err-put_reply.ensures.part
+pub events-init : goal.events-init
+events-init g c =
+    record {
+      reached = reached-none script_play c.args.machine.now c.in_ok-reader.reader _ _ c.in_ok-reader.ensures;
+      fine = ap (λ (r : Reading). r.refused) c.in_ok-reader.ensures;
+      knows = subst (λ (r : Reading). KnowsEnd r.ended (g.S.Source.left c.args.source.now)) (sym c.in_ok-reader.ensures) (λ e. cc);
+      counted = omega arith;
+      counted_sink = omega arith;
+    }
+
+pub returns-in_err-reader-clause-refused : goal.returns-in_err-reader-clause-refused
+returns-in_err-reader-clause-refused g c =
+    err-ends script_play c.args.machine.now c.args.machine.now c.from_residual.result NoMemory _ _ _ _ c.from_residual.ensures.1 (ends-unread script_play c.args.machine.now _ _)
+
+pub returns-in_err-more-clause-refused : goal.returns-in_err-more-clause-refused
+returns-in_err-more-clause-refused g c =
+    err-ends script_play c.args.machine.now c.events.machine c.from_residual-in_err-more.result (run_error_of c.in_err-more.field-0.0) _ _ _ _ c.from_residual-in_err-more.ensures.1
+    (ends-by script_play c.args.machine.now c.events.machine c.in_err-more.field-0.0 c.events.reader c.next_event.new.reader _ _ _ _ _ c.events.invariant.reached c.in_err-more.ensures.stopped c.next_event.ensures.knows)
+
+pub returns-in_err-do_event-clause-refused : goal.returns-in_err-do_event-clause-refused
+returns-in_err-do_event-clause-refused g c =
+    let passed = c.in_ok-more.ensures.event (ap Ok c.if-not-more.false) in
+    err-ends script_play c.args.machine.now c.do_event.new.machine c.from_residual-in_err-do_event.result c.in_err-do_event.field-0.0 _ _ _ _ c.from_residual-in_err-do_event.ensures.1
+    (ends-broken script_play c.args.machine.now c.events.machine c.do_event.new.machine c.in_err-do_event.field-0.0 c.events.reader c.next_event.new.reader _ _ _ _ _ _ (event_in c.next_event.new.heard) c.events.invariant.reached passed c.next_event.ensures.knows c.in_err-do_event.ensures.broke)
 
 pub events-preserved : goal.events-preserved
-events-preserved g c = record {
-  way = one_more reply_to after [] c.events.documents c.answer.new.documents _ _ _ _ _ _ c.in-Some.event c.as_slice.result.now c.events.invariant.way
-      (rw c.in-Some.is at c.in_ok-event.ensures.event)
-      (c.as_slice.ensures.value ∙ c.in_ok-answer.ensures.reply ∙ ap (λ l. l ++ reply_to c.events.documents c.in-Some.event) c.clear.ensures.items)
-      c.in_ok-answer.ensures.after c.in_ok-put_reply.ensures.ok;
-  fine = c.in_ok-event.ensures.fine;
-  counted = omega arith;
-  counted_sink = omega arith;
-}
+events-preserved g c =
+    let passed = c.in_ok-more.ensures.event (ap Ok c.if-not-more.false) in
+    record {
+      reached = one-more script_play c.args.machine.now c.events.machine c.do_event.new.machine c.events.reader c.next_event.new.reader _ _ _ _ _ _ (event_in c.next_event.new.heard) c.events.invariant.reached passed c.in_ok-do_event.ensures.after c.in_ok-do_event.ensures.put;
+      fine = c.in_ok-more.ensures.fine;
+      knows = c.next_event.ensures.knows;
+      counted = omega arith;
+      counted_sink = omega arith;
+    }

@@ -1,4 +1,4 @@
-use Rattle.std.proofs.Common.{◌≡◌, ℕ, [], ◌∷◌, refl, lit<, sym, subst}
+use Rattle.std.proofs.Common.{[], ◌∷◌, refl, lit<, sym, subst}
 use Rattle.std.specs.Prelude.{Contains}
 use Rattle.tsds_cli.specs.declared.program.RunError.{RunError}
 use Rattle.tsds_cli.specs.declared.program.RunError.TheVariants.{NoMemory, Read, Write, TooLong}

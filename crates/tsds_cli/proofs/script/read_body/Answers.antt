@@ -1,46 +1,59 @@
-use Rattle.std.proofs.Common.{◌≡◌, ◌∙◌, ℕ, ◌≤◌, ◌<◌, ◌||◌, nat_lt, length, None, Err, true, false, [], arith, sym, subst, ap, rules}
-use Rattle.std.specs.Prelude.{IfSome}
-use Rattle.std.proofs.lemmas.Result.{err_from_is_err_and}
-use Rattle.tsds_cli.specs.declared.script.ScriptError.TheVariants.{TooLong}
+use Rattle.std.proofs.Common.{◌∙◌, ◌++◌, ◌∷◌, ℕ, ◌≤◌, [], Err, List, length, arith, sym, subst, ap}
+use Rattle.edge_face.specs.Reading.{Reading}
+use Rattle.tsds_cli.specs.Script.{Request}
 use Rattle.tsds_cli.specs.Errors.{script_error_of}
-use Rattle.tsds_cli.specs.Script.{is_empty}
-use Rattle.tsds_cli.specs.Limits.{body_limit}
-use Rattle.tsds_cli.specs.Ahead.{in_body_of, behind_body, ahead_of}
-use Rattle.tsds_cli.proofs.AheadLemmas.{in_body_same, too_long-in_body, take_in_body, take_empty, long_with_line}
+use Rattle.tsds_cli.specs.Script.{Place, between, within}
+use Rattle.tsds_cli.specs.Ahead.{Passed}
+use Rattle.edge_face.specs.Limits.{body_limit}
+use Rattle.tsds_cli.proofs.PassLemmas.{passed-passed, looked, stopped-line, stopped-add, end-passed, close-passed, body-passed, err-stops}
 use Rattle.tsds_cli.proofs.script.read_body.Goals as goal
 
-pub returns-in_err-piece-clause-long : goal.returns-in_err-piece-clause-long
-returns-in_err-piece-clause-long g c =
-    let answer = err_from_is_err_and c.from_residual.result c.from_residual.ensures.1 in
-    λ is. let error : script_error_of c.in_err-piece.field-0.0 ≡ TooLong = cc (answer.1, answer.2, is) in
-    subst (λ o. IfSome o (λ it. (nat_lt body_limit (length it.body) || it.ahead.long) ≡ true))
-    (in_body_same c.loop-body.body.items c.find_line.new.self c.loop-body.reader _ _ c.find_line.ensures.kept c.find_line.ensures.counted ∙ c.loop-body.invariant.body)
-    (too_long-in_body c.loop-body.body.items c.find_line.new.self _ c.in_err-piece.field-0.0 _ _ (c.in_err-piece.ensures.cause c.loop-body.invariant.fine) error)
+pub returns-in_err-piece-clause-stopped : goal.returns-in_err-piece-clause-stopped
+returns-in_err-piece-clause-stopped g c =
+    let from : Place = within c.args.heard.now.line.items [] in
+    let here : Place = within c.args.heard.now.line.items c.lines.heard.body.items in
+    let passed = passed-passed [] [] from here here c.args.reader.now c.lines.reader c.find_line.new.self _ _ _ c.lines.invariant.passed (looked here c.lines.reader c.find_line.new.self _ _ c.find_line.ensures.kept c.find_line.ensures.counted c.find_line.ensures.still) in
+    err-stops from c.from_residual.result (script_error_of c.in_err-piece.field-0.0) c.args.reader.now c.find_line.new.self _ _ c.from_residual.ensures.1
+    (stopped-line from here c.in_err-piece.field-0.0 c.args.reader.now c.find_line.new.self _ _ _ _ passed c.find_line.ensures.within (c.in_err-piece.ensures.cause c.lines.invariant.fine))
 
-pub returns-then-ends_body-clause-body : goal.returns-then-ends_body-clause-body
-returns-then-ends_body-clause-body g c =
-    sym c.loop-body.invariant.body ∙ sym (in_body_same c.loop-body.body.items c.find_line.new.self c.loop-body.reader _ _ c.find_line.ensures.kept c.find_line.ensures.counted)
-    ∙ take_empty c.in_ok-piece.piece c.loop-body.body.items c.find_line.new.self c.pass.new.self _ c.in_ok-piece.ensures.found (omega arith)
-    (ap is_empty (sym c.line-line.ensures) ∙ sym c.ends_body.ensures ∙ c.if-ends_body.true) c.pass.ensures
-    ∙ ap (λ b. behind_body b (ahead_of false c.pass.new.self (g.S.Source.left c.find_line.new.source))) (sym c.from_vec-then-ends_body.ensures)
+pub returns-then-piece-eq0-clause-event : goal.returns-then-piece-eq0-clause-event
+returns-then-piece-eq0-clause-event g c =
+    let from : Place = within c.args.heard.now.line.items [] in
+    let here : Place = within c.args.heard.now.line.items c.lines.heard.body.items in
+    let passed = passed-passed [] [] from here here c.args.reader.now c.lines.reader c.find_line.new.self _ _ _ c.lines.invariant.passed (looked here c.lines.reader c.find_line.new.self _ _ c.find_line.ensures.kept c.find_line.ensures.counted c.find_line.ensures.still) in
+    passed-passed [] (Request c.args.heard.now.line.items c.lines.heard.body.items ∷ []) from here between c.args.reader.now c.find_line.new.self c.find_line.new.self _ _ _ passed (end-passed here c.in_ok-piece.piece c.find_line.new.self _ c.in_ok-piece.ensures.found c.if-piece-eq0.true)
 
-pub returns-in_err-add_line-clause-long : goal.returns-in_err-add_line-clause-long
-returns-in_err-add_line-clause-long g c =
-    let answer = err_from_is_err_and c.from_residual-in_err-add_line.result c.from_residual-in_err-add_line.ensures.1 in
-    λ is. let error : c.in_err-add_line.field-0.0 ≡ TooLong = cc (answer.1, answer.2, is) in
-    subst (λ o. IfSome o (λ it. (nat_lt body_limit (length it.body) || it.ahead.long) ≡ true))
-    (in_body_same c.loop-body.body.items c.find_line.new.self c.loop-body.reader _ _ c.find_line.ensures.kept c.find_line.ensures.counted ∙ c.loop-body.invariant.body)
-    (long_with_line c.in_ok-piece.piece c.loop-body.body.items c.line-line.result.now c.find_line.new.self _ c.in_ok-piece.ensures.found (omega arith)
-    (sym c.ends_body.ensures ∙ c.if-ends_body.false) c.line-line.ensures (c.in_err-add_line.ensures.long (ap Err error)))
+pub returns-then-ends_body-clause-event : goal.returns-then-ends_body-clause-event
+returns-then-ends_body-clause-event g c =
+    let from : Place = within c.args.heard.now.line.items [] in
+    let here : Place = within c.args.heard.now.line.items c.lines.heard.body.items in
+    let passed = passed-passed [] [] from here here c.args.reader.now c.lines.reader c.find_line.new.self _ _ _ c.lines.invariant.passed (looked here c.lines.reader c.find_line.new.self _ _ c.find_line.ensures.kept c.find_line.ensures.counted c.find_line.ensures.still) in
+    passed-passed [] (Request c.args.heard.now.line.items c.lines.heard.body.items ∷ []) from here between c.args.reader.now c.find_line.new.self c.pass.new.self _ _ _ passed
+    (close-passed c.in_ok-piece.piece c.args.heard.now.line.items c.lines.heard.body.items c.line-line.result.now c.find_line.new.self c.pass.new.self _ c.in_ok-piece.ensures.found (omega arith) c.line-line.ensures (sym c.ends_body.ensures ∙ c.if-ends_body.true) c.pass.ensures)
 
-pub loop-body-preserved : goal.loop-body-preserved
-loop-body-preserved g c = record {
-  body = ap (λ b. in_body_of b c.pass-in-loop-body.new.self (g.S.Source.left c.find_line.new.source)) c.in_ok-add_line.ensures.ok
-      ∙ take_in_body c.in_ok-piece.piece c.loop-body.body.items c.line-line.result.now c.find_line.new.self c.pass-in-loop-body.new.self _ c.in_ok-piece.ensures.found (omega arith)
-      (sym c.ends_body.ensures ∙ c.if-ends_body.false) c.line-line.ensures c.pass-in-loop-body.ensures
-      ∙ in_body_same c.loop-body.body.items c.find_line.new.self c.loop-body.reader _ _ c.find_line.ensures.kept c.find_line.ensures.counted ∙ c.loop-body.invariant.body;
-  short = c.in_ok-add_line.ensures.short;
-  fine = ap (λ r. r.refused) c.pass-in-loop-body.ensures ∙ c.in_ok-piece.ensures.found.fine;
-  onward = omega (arith, ap (λ r. r.answered) c.pass-in-loop-body.ensures, c.find_line.ensures.counted, c.loop-body.invariant.onward);
-  counted = omega arith;
-}
+pub returns-in_err-add_line-clause-stopped : goal.returns-in_err-add_line-clause-stopped
+returns-in_err-add_line-clause-stopped g c =
+    let from : Place = within c.args.heard.now.line.items [] in
+    let here : Place = within c.args.heard.now.line.items c.lines.heard.body.items in
+    let passed = passed-passed [] [] from here here c.args.reader.now c.lines.reader c.find_line.new.self _ _ _ c.lines.invariant.passed (looked here c.lines.reader c.find_line.new.self _ _ c.find_line.ensures.kept c.find_line.ensures.counted c.find_line.ensures.still) in
+    err-stops from c.from_residual-in_err-add_line.result c.in_err-add_line.field-0.0 c.args.reader.now c.find_line.new.self _ _ c.from_residual-in_err-add_line.ensures.1
+    (stopped-add from c.in_err-add_line.field-0.0 c.in_ok-piece.piece c.args.heard.now.line.items c.lines.heard.body.items c.line-line.result.now c.args.reader.now c.find_line.new.self _ _ passed c.in_ok-piece.ensures.found (omega arith)
+    (sym c.ends_body.ensures ∙ c.if-ends_body.false) c.line-line.ensures (λ e. c.in_err-add_line.ensures.long (ap Err e)) (λ e. c.in_err-add_line.ensures.read (ap Err e)))
+
+pub lines-preserved : goal.lines-preserved
+lines-preserved g c =
+    let from : Place = within c.args.heard.now.line.items [] in
+    let here : Place = within c.args.heard.now.line.items c.lines.heard.body.items in
+    let longer : List ℕ = c.lines.heard.body.items ++ (c.line-line.result.now ++ 10 ∷ []) in
+    let passed = passed-passed [] [] from here here c.args.reader.now c.lines.reader c.find_line.new.self _ _ _ c.lines.invariant.passed (looked here c.lines.reader c.find_line.new.self _ _ c.find_line.ensures.kept c.find_line.ensures.counted c.find_line.ensures.still) in
+    let short = subst (λ l. length l ≤ body_limit) c.in_ok-add_line.ensures.ok c.in_ok-add_line.ensures.short in
+    let all = passed-passed [] [] from here (within c.args.heard.now.line.items longer) c.args.reader.now c.find_line.new.self c.pass-in-lines.new.self _ _ _ passed
+    (body-passed c.in_ok-piece.piece c.args.heard.now.line.items c.lines.heard.body.items c.line-line.result.now c.find_line.new.self c.pass-in-lines.new.self _ c.in_ok-piece.ensures.found (omega arith) c.line-line.ensures (sym c.ends_body.ensures ∙ c.if-ends_body.false) short c.pass-in-lines.ensures) in
+    record {
+      passed = subst (λ (b : List ℕ). Passed from [] (within c.args.heard.now.line.items b) c.args.reader.now c.pass-in-lines.new.self (g.S.Source.left c.args.source.now) (g.S.Source.left c.find_line.new.source)) (sym c.in_ok-add_line.ensures.ok) all;
+      kept = c.lines.invariant.kept;
+      short = c.in_ok-add_line.ensures.short;
+      fine = ap (λ (r : Reading). r.refused) c.pass-in-lines.ensures ∙ c.in_ok-piece.ensures.found.fine;
+      knows = λ e. c.find_line.ensures.knows (sym (ap (λ (r : Reading). r.ended) c.pass-in-lines.ensures) ∙ e);
+      counted = omega arith;
+    }

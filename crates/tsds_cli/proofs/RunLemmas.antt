@@ -1,0 +1,285 @@
+-- A run of a script, event by event.
+use Rattle.std.proofs.Common.{◌≡◌, ◌∙◌, ℕ, suc, ◌-◌, ◌==◌, ◌&&◌, ◌⊎◌, inl, inr, Bool, true, false, nat_lt, cond, List, [], ◌∷◌, ◌++◌, length, map, Option, None, Some, IfSome, refl, ap, sym, subst, arith, append_assoc, append-nil}
+use Rattle.std.specs.List.{filter, concat, slice_index}
+use Rattle.std.specs.Option.{option_map}
+use Rattle.std.specs.Prelude.{IfErr, IsErrAnd, Result}
+use Rattle.std.proofs.lemmas.Result.{err_from_is_err_and}
+use Rattle.std.specs.Io.BufRead.{ends_with_byte}
+use Rattle.std.proofs.lemmas.Bool.{ne_eqb}
+use Rattle.edge_face.specs.Contents.{appended, preceded}
+use Rattle.edge_face.specs.Waiting.{KnowsEnd}
+use Rattle.edge_face.specs.Lines.{pieces_of, line_of, with_first, HasNoNewline}
+use Rattle.edge_face.specs.Reading.{Reading, left_of}
+use Rattle.tsds_cli.specs.Script.{Event}
+use Rattle.tsds_cli.specs.declared.script.ScriptError.{ScriptError}
+use Rattle.tsds_cli.specs.declared.script.ScriptError.TheVariants.{Read, TooLong, NoMemory}
+use Rattle.tsds_cli.specs.declared.program.RunError.{RunError}
+use Rattle.tsds_cli.specs.declared.program.RunError.TheVariants as run
+use Rattle.tsds_cli.specs.Script.{Place, between, closed_of, events_of, closed_from, events_from, whole_lines, lines_of}
+use Rattle.tsds_cli.specs.Limits.{fine_of, is_too_long}
+use Rattle.tsds_cli.specs.Ahead.{Ahead, ahead_in, ahead_of, behind, Passed, IsAtEnd, Stopped}
+use Rattle.tsds_cli.specs.Play.{Play, text_of, with_reply, replies, after_events, PutAll, IsBehind}
+use Rattle.tsds_cli.specs.Ends.{EndsBy, Broke, IsPut, Reached, IsFront, IsNear, PutFront, PutPart, PutFine}
+use Rattle.tsds_cli.specs.Words.{run_error_of}
+use Rattle.tsds_cli.proofs.PassLemmas.{passed-passed, preceded-preceded, preceded-nothing}
+
+-- a reader that has read nothing
+abbrev pub fresh : Reading
+fresh = record { pending = []; answered = 0; refused = None; ended = false }
+
+given_twice : (contents : Option (List ℕ)) (a b : List ℕ) → appended (appended contents a) b ≡ appended contents (a ++ b)
+given_twice None a b = refl
+given_twice (Some held) a b = ap Some (append_assoc held a b)
+
+pub given-nothing : (contents : Option (List ℕ)) → contents ≡ appended contents []
+given-nothing None = refl
+given-nothing (Some held) = ap Some (sym (append-nil held))
+
+text-with : (r : Option (List ℕ)) (lines : List (List ℕ)) → concat (with_reply r lines) ≡ text_of r ++ concat lines
+text-with None lines = refl
+text-with (Some line) lines = refl
+
+-- bytes without a newline hold no whole line
+pieces-none : (b : ℕ) (bytes : List ℕ) → HasNoNewline (b ∷ bytes) → pieces_of (b ∷ bytes) ≡ (b ∷ bytes) ∷ []
+pieces-none b [] none = ap (λ v. cond v ((b ∷ []) ∷ []) ((b ∷ []) ∷ [])) (ne_eqb b 10 (none 0 (omega arith)))
+pieces-none b (c ∷ bytes) none =
+    ap (λ v. cond v ((b ∷ []) ∷ pieces_of (c ∷ bytes)) (with_first b (pieces_of (c ∷ bytes)))) (ne_eqb b 10 (none 0 (omega arith)))
+    ∙ ap (with_first b) (pieces-none c bytes (λ k below. none (suc k) (omega arith)))
+
+and-false : (b : Bool) → (b && false) ≡ false
+and-false true = refl
+and-false false = refl
+
+pub none-whole : (bytes : List ℕ) → HasNoNewline bytes → whole_lines bytes ≡ []
+none-whole [] none = refl
+none-whole (b ∷ bytes) none =
+    let all : List ℕ = b ∷ bytes in
+    let last : (slice_index all (length all - 1) == 10) ≡ false = ne_eqb (slice_index all (length all - 1)) 10 (none (length all - 1) (omega arith)) in
+    let ends : ends_with_byte 10 all ≡ false = ap (λ v. nat_lt 0 (length all) && v) last ∙ and-false (nat_lt 0 (length all)) in
+    ap (λ ps. map line_of (filter (ends_with_byte 10) ps)) (pieces-none b bytes none) ∙ ap (λ v. map line_of (cond v (all ∷ []) [])) ends
+
+-- what was taken from the source
+taken-is : (es : List Event) (to : Place) (reader : Reading) (script left : Option (List ℕ)) (p : Passed between es to fresh reader script left) → script ≡ preceded (p.gone ++ reader.pending) left
+taken-is es to reader script left p = sym (preceded-nothing script) ∙ p.moved ∙ preceded-preceded p.gone reader.pending left
+
+-- what a told script says, once what lies ahead is known
+told-ahead : (es : List Event) (script : Option (List ℕ)) (ahead : Option Ahead) (P : Ahead → Type 0) → ahead_of between fresh script ≡ option_map (behind es) ahead → IfSome ahead P
+    → IfSome script (λ all. (a : Ahead) × (ahead_in between 0 (pieces_of all) ≡ behind es a) × P a)
+told-ahead es None ahead P is h = tt
+told-ahead es (Some all) None P is h = absurd (none is)
+  where
+    none : {y : Ahead} → ◌≡◌ {A = Option Ahead} (Some y) None → ⊥
+    none e = cc
+told-ahead es (Some all) (Some a) P is h = (a, some is, h)
+  where
+    some : {x y : Ahead} → ◌≡◌ {A = Option Ahead} (Some x) (Some y) → x ≡ y
+    some e = cc
+
+-- the events that were done are a front of those that are closed, or of all
+pub front-more : Place → Bool → List ℕ → List Event
+front-more to true pending = events_from to (lines_of pending)
+front-more to false pending = closed_from to (whole_lines pending)
+
+pub fronts : (es : List Event) (to : Place) (reader : Reading) (script left : Option (List ℕ)) → KnowsEnd reader.ended left → Passed between es to fresh reader script left → (more : List Event) × IsFront es more script left
+fronts es to reader script left knows p = by_end reader.ended refl
+  where
+    ahead-here : (left : Option (List ℕ)) → IfSome left (λ rest. rest ≡ []) → IfSome (ahead_of to reader left) (λ a. a.events ≡ events_from to (lines_of reader.pending))
+    ahead-here None h = tt
+    ahead-here (Some rest) h = ap (λ l. events_from to (lines_of (reader.pending ++ l))) h ∙ ap (λ l. events_from to (lines_of l)) (append-nil reader.pending)
+
+    read-off : (script : Option (List ℕ)) → IfSome script (λ all. (a : Ahead) × (ahead_in between 0 (pieces_of all) ≡ behind es a) × (a.events ≡ events_from to (lines_of reader.pending))) → IfSome script (λ all. events_of all ≡ es ++ events_from to (lines_of reader.pending))
+    read-off None h = tt
+    read-off (Some all) h = ap (λ (a : Ahead). a.events) h.1 ∙ ap (λ l. es ++ l) h.2
+
+    by_end : (b : Bool) → reader.ended ≡ b → (more : List Event) × IsFront es more script left
+    by_end true is = (
+      events_from to (lines_of reader.pending),
+      record {
+        taken = p.gone ++ reader.pending;
+        taken_is = taken-is es to reader script left p;
+        front = inr (knows is, read-off script (told-ahead es script (ahead_of to reader left) (λ a. a.events ≡ events_from to (lines_of reader.pending)) p.ahead (ahead-here left (knows is))));
+      },
+    )
+    by_end false is = (
+      closed_from to (whole_lines reader.pending),
+      record {
+        taken = p.gone ++ reader.pending;
+        taken_is = taken-is es to reader script left p;
+        front = inl (p.closed is reader.pending);
+      },
+    )
+
+-- one more of them is one less behind them
+pub front-next : (es : List Event) (e : Event) (more : List Event) (script left : Option (List ℕ)) → IsFront (es ++ e ∷ []) more script left → IsFront es (e ∷ more) script left
+front-next es e more script left f = record { taken = f.taken; taken_is = f.taken_is; front = by f.front }
+  where
+    under : (script : Option (List ℕ)) → IfSome script (λ all. events_of all ≡ (es ++ e ∷ []) ++ more) → IfSome script (λ all. events_of all ≡ es ++ e ∷ more)
+    under None h = tt
+    under (Some all) h = h ∙ append_assoc es (e ∷ []) more
+
+    by : (closed_of f.taken ≡ (es ++ e ∷ []) ++ more) ⊎ (IfSome left (λ rest. rest ≡ []) × IfSome script (λ all. events_of all ≡ (es ++ e ∷ []) ++ more))
+        → (closed_of f.taken ≡ es ++ e ∷ more) ⊎ (IfSome left (λ rest. rest ≡ []) × IfSome script (λ all. events_of all ≡ es ++ e ∷ more))
+    by (inl h) = inl (h ∙ append_assoc es (e ∷ []) more)
+    by (inr h) = inr (h.0, under script h.1)
+
+-- the exit of a `?`
+pub err-ends : {S T : Type 0} (play : Play S) (start now : S) (r : Result T RunError) (e : RunError) (script left given0 given : Option (List ℕ)) → IsErrAnd r (λ y. y ≡ e) → EndsBy play start now e script left given0 given → IfErr r (λ y. EndsBy play start now y script left given0 given)
+err-ends play start now r e script left given0 given exit ends =
+    let answer = err_from_is_err_and r exit in
+    subst (λ r. IfErr r (λ y. EndsBy play start now y script left given0 given)) (sym answer.1) (subst (λ y. EndsBy play start now y script left given0 given) (sym answer.2) ends)
+
+module _ {S : Type 0} (play : Play S) where
+  pub replies-more : (s : S) (es : List Event) (e : Event) → concat (replies play s (es ++ e ∷ [])) ≡ concat (replies play s es) ++ text_of (play (after_events play s es) e).reply
+  replies-more s [] e = text-with (play s e).reply [] ∙ append-nil (text_of (play s e).reply)
+  replies-more s (x ∷ es) e =
+      text-with (play s x).reply (replies play (play s x).after (es ++ e ∷ []))
+      ∙ ap (λ l. text_of (play s x).reply ++ l) (replies-more (play s x).after es e)
+      ∙ sym (append_assoc (text_of (play s x).reply) (concat (replies play (play s x).after es)) (text_of (play (after_events play (play s x).after es) e).reply))
+      ∙ ap (λ l. l ++ text_of (play (after_events play (play s x).after es) e).reply) (sym (text-with (play s x).reply (replies play (play s x).after es)))
+
+  pub after-more : (s : S) (es : List Event) (e : Event) → after_events play s (es ++ e ∷ []) ≡ (play (after_events play s es) e).after
+  after-more s [] e = refl
+  after-more s (x ∷ es) e = after-more (play s x).after es e
+
+  -- before the first event
+  pub reached-none : (start : S) (reader : Reading) (script given0 : Option (List ℕ)) → reader ≡ fresh → Reached play start start fresh reader script script given0 given0
+  reached-none start reader script given0 is = record {
+    done = [];
+    state = refl;
+    put = given-nothing given0;
+    passed = subst (λ r. Passed between [] between fresh r script script) (sym is) (record {
+      gone = [];
+      moved = sym (preceded-nothing (left_of fresh script));
+      closed = λ going more. refl;
+      ahead = none (ahead_of between fresh script);
+      still = λ going. going;
+      counted = omega arith;
+    });
+  }
+    where
+      none : (ahead : Option Ahead) → ahead ≡ option_map (behind []) ahead
+      none None = refl
+      none (Some a) = refl
+
+  -- one event more
+  pub one-more : (start now next : S) (reader reader' : Reading) (script left left' given0 given given' : Option (List ℕ)) (e : Event)
+      → Reached play start now fresh reader script left given0 given → Passed between (e ∷ []) between reader reader' left left' → next ≡ (play now e).after → given' ≡ appended given (text_of (play now e).reply)
+      → Reached play start next fresh reader' script left' given0 given'
+  one-more start now next reader reader' script left left' given0 given given' e r p next_is put_is = record {
+    done = r.done ++ e ∷ [];
+    state = next_is ∙ ap (λ s. (play s e).after) r.state ∙ sym (after-more start r.done e);
+    put = put_is ∙ ap (λ g. appended g (text_of (play now e).reply)) r.put ∙ ap (λ s. appended (appended given0 (concat (replies play start r.done))) (text_of (play s e).reply)) r.state
+        ∙ given_twice given0 (concat (replies play start r.done)) (text_of (play (after_events play start r.done) e).reply) ∙ ap (appended given0) (sym (replies-more start r.done e));
+    passed = passed-passed r.done (e ∷ []) between between between fresh reader reader' script left left' r.passed p;
+  }
+
+  -- no memory before an event was read
+  pub front-of : (start now : S) (reader : Reading) (script left given0 given : Option (List ℕ)) → Reached play start now fresh reader script left given0 given → KnowsEnd reader.ended left → PutFront play start now script left given0 given
+  front-of start now reader script left given0 given r knows =
+      let f = fronts r.done between reader script left knows r.passed in
+      record { done = r.done; more = f.0; front = f.1; put = r.put; state = inl r.state }
+
+  -- no memory for an event that was read: nothing of it was put
+  front-before : (start now state : S) (reader reader' : Reading) (script left left' given0 given : Option (List ℕ)) (e : Event) → Reached play start now fresh reader script left given0 given → Passed between (e ∷ []) between reader reader' left left' → KnowsEnd reader'.ended left'
+      → (state ≡ now) ⊎ (state ≡ (play now e).stepped) → PutFront play start state script left' given0 given
+  front-before start now state reader reader' script left left' given0 given e r p knows near =
+      let f = fronts (r.done ++ e ∷ []) between reader' script left' knows (passed-passed r.done (e ∷ []) between between between fresh reader reader' script left left' r.passed p) in
+      record { done = r.done; more = e ∷ f.0; front = front-next r.done e f.0 script left' f.1; put = r.put; state = by f.0 near }
+    where
+      by : (more : List Event) → (state ≡ now) ⊎ (state ≡ (play now e).stepped) → IsNear play start state r.done (e ∷ more)
+      by more (inl same) = inl (same ∙ r.state)
+      by more (inr stepped) = inr (inl (record { next = e; later = more; first = refl; is = record { stepped = stepped ∙ ap (λ s. (play s e).stepped) r.state } }))
+
+  -- no memory for the unit of an event: all of its reply was put
+  front-behind : (start now state : S) (reader reader' : Reading) (script left left' given0 given given' : Option (List ℕ)) (e : Event) → Reached play start now fresh reader script left given0 given → Passed between (e ∷ []) between reader reader' left left' → KnowsEnd reader'.ended left'
+      → state ≡ (play now e).stepped → given' ≡ appended given (text_of (play now e).reply) → PutFront play start state script left' given0 given'
+  unfolding one-more
+  front-behind start now state reader reader' script left left' given0 given given' e r p knows stepped put_is =
+      let all = one-more start now (play now e).after reader reader' script left left' given0 given given' e r p refl put_is in
+      let f = fronts all.done between reader' script left' knows all.passed in
+      record { done = all.done; more = f.0; front = f.1; put = all.put; state = inr (inr (record { earlier = r.done; last = e; end = refl; is = record { stepped = stepped ∙ ap (λ s. (play s e).stepped) r.state } })) }
+
+  -- a first part of an event's reply was put
+  part-of : (start now state : S) (reader reader' : Reading) (script left left' given0 given given' : Option (List ℕ)) (e : Event) → Reached play start now fresh reader script left given0 given → Passed between (e ∷ []) between reader reader' left left' → KnowsEnd reader'.ended left'
+      → state ≡ (play now e).stepped → IsPut (text_of (play now e).reply) given given' → PutPart play start state script left' given0 given'
+  part-of start now state reader reader' script left left' given0 given given' e r p knows stepped cut =
+      let f = fronts (r.done ++ e ∷ []) between reader' script left' knows (passed-passed r.done (e ∷ []) between between between fresh reader reader' script left left' r.passed p) in
+      record {
+        done = r.done;
+        next = e;
+        more = f.0;
+        front = front-next r.done e f.0 script left' f.1;
+        part = cut.part;
+        cut = cut.more;
+        whole = cut.whole ∙ ap (λ s. text_of (play s e).reply) r.state;
+        put = cut.given_is ∙ ap (λ g. appended g cut.part) r.put ∙ given_twice given0 (concat (replies play start r.done)) cut.part;
+        state = record { stepped = stepped ∙ ap (λ s. (play s e).stepped) r.state };
+      }
+
+  -- an event that broke off
+  pub ends-broken : (start now state : S) (error : RunError) (reader reader' : Reading) (script left left' given0 given given' : Option (List ℕ)) (e : Event) → Reached play start now fresh reader script left given0 given → Passed between (e ∷ []) between reader reader' left left' → KnowsEnd reader'.ended left'
+      → Broke play now state e error given given' → EndsBy play start state error script left' given0 given'
+  ends-broken start now state run.NoMemory reader reader' script left left' given0 given given' e r p knows (inl none) =
+      subst (λ g. PutFront play start state script left' given0 g) (sym none.1) (front-before start now state reader reader' script left left' given0 given e r p knows none.0)
+  ends-broken start now state run.NoMemory reader reader' script left left' given0 given given' e r p knows (inr all) =
+      front-behind start now state reader reader' script left left' given0 given given' e r p knows all.0 all.1
+  ends-broken start now state run.Write reader reader' script left left' given0 given given' e r p knows broke = part-of start now state reader reader' script left left' given0 given given' e r p knows broke.0 broke.1
+  ends-broken start now state run.Read reader reader' script left left' given0 given given' e r p knows broke = absurd broke
+  ends-broken start now state run.TooLong reader reader' script left left' given0 given given' e r p knows broke = absurd broke
+
+  -- no memory before the first event
+  pub ends-unread : (start : S) (script given0 : Option (List ℕ)) → EndsBy play start start run.NoMemory script script given0 given0
+  ends-unread start script given0 = front-of start start fresh script script given0 given0 (reached-none start fresh script given0 refl) (λ e. absurd (no e))
+    where
+      no : ◌≡◌ {A = Bool} false true → ⊥
+      no h = cc
+
+  -- why the next event doesn't come
+  pub ends-by : (start now : S) (error : ScriptError) (reader reader' : Reading) (script left left' given0 given : Option (List ℕ)) → Reached play start now fresh reader script left given0 given → Stopped between error reader reader' left left' → KnowsEnd reader'.ended left'
+      → EndsBy play start now (run_error_of error) script left' given0 given
+  ends-by start now Read reader reader' script left left' given0 given r s knows =
+      let p = passed-passed r.done [] between between s.place fresh reader reader' script left left' r.passed s.passed in
+      let all : closed_of (p.gone ++ reader'.pending) ≡ r.done = p.closed s.why.1 reader'.pending ∙ ap (λ ls. (r.done ++ []) ++ closed_from s.place ls) (none-whole reader'.pending s.why.0) ∙ append-nil (r.done ++ []) ∙ append-nil r.done in
+      record {
+        taken = p.gone ++ reader'.pending;
+        taken_is = taken-is (r.done ++ []) s.place reader' script left' p;
+        put = r.put ∙ ap (λ es. appended given0 (concat (replies play start es))) (sym all);
+        state = r.state ∙ ap (after_events play start) (sym all);
+      }
+  ends-by start now NoMemory reader reader' script left left' given0 given r s knows =
+      let p = passed-passed r.done [] between between s.place fresh reader reader' script left left' r.passed s.passed in
+      let f = fronts (r.done ++ []) s.place reader' script left' knows p in
+      record { done = r.done; more = f.0; front = subst (λ es. IsFront es f.0 script left') (append-nil r.done) f.1; put = r.put; state = inl r.state }
+  ends-by start now TooLong reader reader' script left left' given0 given r s knows =
+      let p = passed-passed r.done [] between between s.place fresh reader reader' script left left' r.passed s.passed in
+      long script (told-ahead (r.done ++ []) script (ahead_of s.place reader' left') (λ a. (a.fine ≡ []) × (a.long ≡ true)) p.ahead s.why)
+    where
+      long : (script : Option (List ℕ)) → IfSome script (λ all. (a : Ahead) × (ahead_in between 0 (pieces_of all) ≡ behind (r.done ++ []) a) × ((a.fine ≡ []) × (a.long ≡ true))) → IfSome script (λ all. PutFine play start now all given0 given)
+      long None h = tt
+      long (Some all) h =
+          let fine : fine_of all ≡ r.done = ap (λ (a : Ahead). a.fine) h.1 ∙ ap (λ l. (r.done ++ []) ++ l) h.2.0 ∙ append-nil (r.done ++ []) ∙ append-nil r.done in
+          record {
+            long = ap (λ (a : Ahead). a.long) h.1 ∙ h.2.1;
+            put = r.put ∙ ap (λ es. appended given0 (concat (replies play start es))) (sym fine);
+            state = r.state ∙ ap (after_events play start) (sym fine);
+          }
+
+  -- all is done
+  pub all-done : (start now : S) (reader reader' : Reading) (script left left' given0 given : Option (List ℕ)) → Reached play start now fresh reader script left given0 given → IsAtEnd between between reader reader' left left' → KnowsEnd reader'.ended left'
+      → IfSome script (λ all. (is_too_long all ≡ false) × (PutAll play start given0 given (events_of all) × IsBehind play start now (events_of all)))
+  all-done start now reader reader' script left left' given0 given r e knows =
+      let p = passed-passed r.done [] between between between fresh reader reader' script left left' r.passed e.passed in
+      done script (told-ahead (r.done ++ []) script (ahead_of between reader' left') (λ a. (a.events ≡ []) × (a.long ≡ false)) p.ahead (nothing left' (knows e.ended)))
+    where
+      nothing : (left' : Option (List ℕ)) → IfSome left' (λ rest. rest ≡ []) → IfSome (ahead_of between reader' left') (λ a. (a.events ≡ []) × (a.long ≡ false))
+      nothing None h = tt
+      nothing (Some rest) h =
+          let empty : reader'.pending ++ rest ≡ [] = ap (λ l. l ++ rest) e.nothing ∙ h in
+          (ap (λ l. (ahead_in between reader'.answered (pieces_of l)).events) empty, ap (λ l. (ahead_in between reader'.answered (pieces_of l)).long) empty)
+
+      done : (script : Option (List ℕ)) → IfSome script (λ all. (a : Ahead) × (ahead_in between 0 (pieces_of all) ≡ behind (r.done ++ []) a) × ((a.events ≡ []) × (a.long ≡ false)))
+          → IfSome script (λ all. (is_too_long all ≡ false) × (PutAll play start given0 given (events_of all) × IsBehind play start now (events_of all)))
+      done None h = tt
+      done (Some all) h =
+          let events : events_of all ≡ r.done = ap (λ (a : Ahead). a.events) h.1 ∙ ap (λ l. (r.done ++ []) ++ l) h.2.0 ∙ append-nil (r.done ++ []) ∙ append-nil r.done in
+          (ap (λ (a : Ahead). a.long) h.1 ∙ h.2.1, (r.put ∙ ap (λ es. appended given0 (concat (replies play start es))) (sym events), r.state ∙ ap (after_events play start) (sym events)))
