@@ -1,0 +1,21 @@
+use Rattle.stream_catalog.proofs.PutLemmas.{puts_keep_sound}
+use Rattle.stream_catalog.proofs.BlockLemmas.{blocks_keep_sound}
+use Rattle.stream_catalog.proofs.DownsampleLemmas.{downsamples_keep_sound}
+use Rattle.stream_catalog.proofs.UnitLemmas.{units_keep_sound}
+use Rattle.stream_catalog.proofs.StreamLemmas.{lives_keep_sound}
+use Rattle.stream_catalog.proofs.laws.changes_keep_sound.Goals as goal
+
+pub returns-clause-puts : goal.returns-clause-puts
+returns-clause-puts c = puts_keep_sound
+
+pub returns-clause-blocks : goal.returns-clause-blocks
+returns-clause-blocks c = blocks_keep_sound
+
+pub returns-clause-downsamples : goal.returns-clause-downsamples
+returns-clause-downsamples c = downsamples_keep_sound
+
+pub returns-clause-units : goal.returns-clause-units
+returns-clause-units c = units_keep_sound
+
+pub returns-clause-lives : goal.returns-clause-lives
+returns-clause-lives c = lives_keep_sound

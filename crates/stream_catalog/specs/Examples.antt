@@ -1,0 +1,180 @@
+-- The definitions on small machines, worked out: two rows in one index of two members.
+use Rattle.std.proofs.Common.{◌≡◌, Bool, ℕ, pos, List, [], ◌∷◌, Option, Some, None, true, false, refl, arith, codes, ◌≤◌, ◌*◌}
+use Rattle.std.specs.Prelude.{map, length, Ok, Err}
+use Rattle.row_cells.specs.declared.scalars.Scalar.TheVariants.{Whole, Word}
+use Rattle.row_cells.specs.declared.rows.Cell.TheVariants.{One}
+use Rattle.row_cells.specs.declared.rows.Row.{Row}
+use Rattle.row_cells.specs.declared.schemas.FieldType.TheVariants.{Keyword, Long}
+use Rattle.row_cells.specs.declared.schemas.Role.TheVariants.{Dimension, Counter}
+use Rattle.row_cells.specs.declared.schemas.Schema.{Schema}
+use Rattle.time_text.specs.declared.intervals.Interval.{Interval}
+use Rattle.time_text.specs.declared.units.Unit.TheVariants.{S}
+use Rattle.time_text.specs.Bucket.{bucket_start}
+use Rattle.downsample_fold.specs.Direct.{down}
+use Rattle.lifecycle_swap.specs.declared.lifecycles.Lifecycle.{Lifecycle}
+use Rattle.ts_mapping.specs.declared.templates.Mapping.{Mapping}
+use Rattle.ts_mapping.specs.declared.templates.Template.{Template}
+use Rattle.stream_catalog.specs.declared.answers.CatalogError.TheVariants.{IsWriteIndex, NotBlocked, NotMember, NameTaken}
+use Rattle.stream_catalog.specs.declared.answers.PickError.TheVariants.{NoWindow}
+use Rattle.stream_catalog.specs.declared.answers.Move.TheVariants.{Remove, Add}
+use Rattle.stream_catalog.specs.declared.facts.HeldIndex.{HeldIndex}
+use Rattle.stream_catalog.specs.declared.facts.TaskFacts.{TaskFacts}
+use Rattle.stream_catalog.specs.Plain.{PlainStream, PlainCatalog, facts_of}
+use Rattle.stream_catalog.specs.Ways.{plain_way, seen_way, see_catalog}
+use Rattle.stream_catalog.specs.Indices.{downsample_refusal, downsampled, delete_refusal, index_deleted}
+use Rattle.stream_catalog.specs.Moves.{moves_refusal, moved_all}
+use Rattle.stream_catalog.specs.Names.{fold_name}
+use Rattle.stream_catalog.specs.Puts.{put_into, picked_by}
+use Rattle.stream_catalog.specs.Rounds.{lifecycle_run}
+use Rattle.stream_catalog.specs.Streams.{stream_deleted}
+use Rattle.stream_catalog.specs.Units.{unit_of}
+
+abbrev schema : Schema
+schema = record {
+  fields = record { path = codes "host"; kind = Keyword; role = Dimension }
+      ∷ record { path = codes "req"; kind = Long; role = Counter } ∷ [];
+  routing = 0 ∷ [];
+  folded = false;
+  rises = true;
+}
+
+abbrev mapping : Mapping
+mapping = record { strict = true; shards = 1; schema = schema }
+
+-- the keys of hosts a and b
+abbrev key : ℕ → List ℕ
+key host = 0 ∷ 4 ∷ 104 ∷ 111 ∷ 115 ∷ 116 ∷ 1 ∷ 0 ∷ 1 ∷ host ∷ []
+
+abbrev row_at : ℕ → ℕ → ℕ → Row
+row_at host time value = record { key = key host; time = pos time; count = 1; cells = One (Word (host ∷ [])) ∷ One (Whole (pos value)) ∷ [] }
+
+abbrev seconds : (n : ℕ) → 1 ≤ n * 1000 → n * 1000 ≤ 253402300799999 → Interval
+seconds n some few = record { number = n; unit = S; in_range = (some, few) }
+
+abbrev second : Interval
+second = seconds 1 (omega arith) (omega arith)
+
+abbrev old_facts : Bool → HeldIndex
+old_facts blocked = record { name = codes "a"; origin = codes "a"; template = codes "t"; start = pos 0; end = pos 10000; blocked = blocked; interval = None; mapping = mapping }
+
+abbrev new_facts : HeldIndex
+new_facts = record { name = codes "b"; origin = codes "b"; template = codes "t"; start = pos 10000; end = pos 20000; blocked = false; interval = None; mapping = mapping }
+
+abbrev template : Template
+template = record { name = codes "t"; patterns = codes "s" ∷ []; priority = 0; strict = true; shards = 1; look_back = pos 60000; look_ahead = pos 60000; schema = schema }
+
+abbrev stream : Option Lifecycle → PlainStream
+stream life = record { facts = record { name = codes "s"; template = codes "t"; generation = 2; members = codes "a" ∷ codes "b" ∷ [] }; life = life }
+
+abbrev two : Bool → Option Lifecycle → List TaskFacts → PlainCatalog
+two blocked life tasks = record {
+  templates = template ∷ [];
+  streams = stream life ∷ [];
+  indices = record { facts = old_facts blocked; rows = row_at 98 1100 3 ∷ row_at 97 1500 7 ∷ [] } ∷ record { facts = new_facts; rows = [] } ∷ [];
+  tasks = tasks;
+}
+
+abbrev numbers : PlainCatalog → List ℕ
+numbers c = map (λ i. length i.rows) c.indices
+
+abbrev index_names : PlainCatalog → List (List ℕ)
+index_names c = map (λ i. i.facts.name) c.indices
+
+-- a put, in either way
+pub put_plain : numbers (put_into plain_way (two false None []) (codes "b") (row_at 97 11000 1)) ≡ 2 ∷ 1 ∷ []
+put_plain = refl
+
+pub put_seen : put_into seen_way (see_catalog (two false None [])) (codes "a") (row_at 97 1600 1) ≡ see_catalog (put_into plain_way (two false None []) (codes "a") (row_at 97 1600 1))
+put_seen = refl
+
+-- which member takes a time
+pub picked : picked_by (facts_of (two false None [])) (stream None) (pos 10000) ≡ Ok (codes "b")
+picked = refl
+
+pub not_picked : picked_by (facts_of (two false None [])) (stream None) (pos 20000) ≡ Err NoWindow
+not_picked = refl
+
+-- refusals of folds, in their order
+pub fold_of_open : downsample_refusal (facts_of (two false None [])) (codes "a") (codes "c") second ≡ Some NotBlocked
+fold_of_open = refl
+
+pub fold_of_write : downsample_refusal (facts_of (two true None [])) (codes "b") (codes "c") second ≡ Some (IsWriteIndex (codes "s") (codes "b"))
+fold_of_write = refl
+
+pub fold_onto : downsample_refusal (facts_of (two true None [])) (codes "a") (codes "s") second ≡ Some (NameTaken (codes "s"))
+fold_onto = refl
+
+pub fold_taken : downsample_refusal (facts_of (two true None [])) (codes "a") (codes "c") second ≡ None
+fold_taken = refl
+
+-- what is seen of a fold is the fold of what is seen
+pub fold_seen : see_catalog (downsampled plain_way (two true None []) (codes "a") (codes "c") second) ≡ downsampled seen_way (see_catalog (two true None [])) (codes "a") (codes "c") second
+unfolding down bucket_start
+fold_seen = refl
+
+-- a task of two series: after one unit all is as before, after two the fold stands in the stream
+abbrev folding : ℕ → PlainCatalog
+folding done = two true None (record { index = codes "a"; target = codes "f"; by = second; done = done; rises = true } ∷ [])
+
+pub unit_first : unit_of plain_way (folding 0) ≡ folding 1
+unfolding unit_of
+unit_first = refl
+
+pub unit_last : index_names (unit_of plain_way (folding 1)) ≡ codes "b" ∷ codes "f" ∷ []
+unfolding unit_of
+unit_last = refl
+
+pub unit_member : map (λ (s : PlainStream). s.facts.members) (unit_of plain_way (folding 1)).streams ≡ (codes "f" ∷ codes "b" ∷ []) ∷ []
+unfolding unit_of
+unit_member = refl
+
+pub unit_seen : see_catalog (unit_of plain_way (folding 1)) ≡ unit_of seen_way (see_catalog (folding 1))
+unfolding unit_of down bucket_start
+unit_seen = refl
+
+-- moves: the write index stays; what was taken out is no member; it may come back
+pub move_write : moves_refusal (facts_of (two true None [])) (Remove (codes "s") (codes "a") ∷ Remove (codes "s") (codes "b") ∷ []) ≡ Some (IsWriteIndex (codes "s") (codes "b"))
+move_write = refl
+
+pub move_twice : moves_refusal (facts_of (two true None [])) (Remove (codes "s") (codes "a") ∷ Remove (codes "s") (codes "a") ∷ []) ≡ Some (NotMember (codes "s") (codes "a"))
+move_twice = refl
+
+pub move_back : moved_all (two true None []) (Remove (codes "s") (codes "a") ∷ Add (codes "s") (codes "a") ∷ []) ≡ two true None []
+move_back = refl
+
+-- a removal ends the task
+pub move_ends : (moved_all (folding 1) (Remove (codes "s") (codes "a") ∷ [])).tasks ≡ []
+move_ends = refl
+
+-- deletions
+pub delete_write : delete_refusal (facts_of (two true None [])) (codes "b") ≡ Some (IsWriteIndex (codes "s") (codes "b"))
+delete_write = refl
+
+pub deleted_task : (index_deleted (folding 1) (codes "a")).tasks ≡ []
+deleted_task = refl
+
+pub all_gone : numbers (stream_deleted (folding 1) (codes "s")) ≡ []
+all_gone = refl
+
+-- a lifecycle run extends the write index, and starts a fold, or deletes where the retention is over
+abbrev keeping : Option Lifecycle
+keeping = Some (record { retention = None; rounds = record { after = second; by = second } ∷ [] })
+
+abbrev dropping : Option Lifecycle
+dropping = Some (record { retention = Some second; rounds = [] })
+
+pub run_starts : (lifecycle_run (two false keeping []) (pos 15000)).ran ≡ record { extended = 1; deleted = 0; started = 1 }
+unfolding lifecycle_run
+run_starts = refl
+
+pub run_deletes : (lifecycle_run (two false dropping []) (pos 15000)).ran ≡ record { extended = 1; deleted = 1; started = 0 }
+unfolding lifecycle_run
+run_deletes = refl
+
+pub run_too_soon : (lifecycle_run (two false keeping []) (pos 10999)).ran ≡ record { extended = 1; deleted = 0; started = 0 }
+unfolding lifecycle_run
+run_too_soon = refl
+
+pub run_task : map (λ (t : TaskFacts). t.target) (lifecycle_run (two false keeping []) (pos 15000)).catalog.tasks ≡ fold_name second (codes "a") ∷ []
+unfolding lifecycle_run
+run_task = refl

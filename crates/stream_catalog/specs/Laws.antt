@@ -1,0 +1,109 @@
+-- The laws that tie a plain catalogue to what is seen of it.
+use Rattle.std.specs.Prelude.{◌≡◌, ◌≤◌, ℕ, ℤ, List, length, None, Some}
+use Rattle.row_cells.specs.declared.rows.Row.{Row}
+use Rattle.row_cells.specs.declared.schemas.Schema.{Schema}
+use Rattle.row_cells.specs.Each.{Each}
+use Rattle.row_cells.specs.RowLists.{AreInRowOrder, documents, in_row_order}
+use Rattle.time_text.specs.declared.intervals.Interval.{Interval}
+use Rattle.downsample_fold.specs.Laws.{series_of}
+use Rattle.lifecycle_swap.specs.Lifecycles.{IsLifecycle}
+use Rattle.lifecycle_swap.specs.declared.lifecycles.Lifecycle.{Lifecycle}
+use Rattle.ts_mapping.specs.declared.templates.Template.{Template}
+use Rattle.stream_catalog.specs.declared.answers.Move.{Move}
+use Rattle.stream_catalog.specs.Plain.{PlainIndex, PlainCatalog, facts_of}
+use Rattle.stream_catalog.specs.Ways.{plain_way, seen_way, see_index, see_catalog, kept_rows}
+use Rattle.stream_catalog.specs.Lists.{index_named}
+use Rattle.stream_catalog.specs.Streams.{template_put, created, stream_deleted, life_set, rolled_over}
+use Rattle.stream_catalog.specs.Indices.{blocked_in, downsample_refusal, downsampled, index_deleted}
+use Rattle.stream_catalog.specs.Moves.{moved_all}
+use Rattle.stream_catalog.specs.Puts.{has_place, MayPut, put_into}
+use Rattle.stream_catalog.specs.Rounds.{Running, lifecycle_run}
+use Rattle.stream_catalog.specs.Units.{unit_of}
+use Rattle.stream_catalog.specs.Sound.{IsIndexSound, IsSoundCatalog, IsSeenCatalog}
+use Rattle.stream_catalog.specs.Wanted.{IsRowOf}
+
+-- what is seen of a sound catalogue is sound, and seen again itself
+abbrev pub SeenAgain : Type 0
+SeenAgain = (c : PlainCatalog) → IsSoundCatalog c → IsSeenCatalog (see_catalog c)
+
+-- seeing leaves facts, so each refusal is the same
+abbrev pub FactsStay : Type 0
+FactsStay = (c : PlainCatalog) → facts_of (see_catalog c) ≡ facts_of c
+
+-- a change that commutes with seeing
+abbrev pub GoesThrough : (PlainCatalog → PlainCatalog) → Type 0
+GoesThrough change = (c : PlainCatalog) → see_catalog (change c) ≡ change (see_catalog c)
+
+-- changes that have nothing to do with rows
+pub record ChangesGoThrough : Type 0 where
+  pub template_put : (t : Template) → GoesThrough (λ c. template_put c t)
+  pub created : (name : List ℕ) (now : ℤ) → GoesThrough (λ c. created c name now)
+  pub stream_deleted : (name : List ℕ) → GoesThrough (λ c. stream_deleted c name)
+  pub life_set : (name : List ℕ) (life : Lifecycle) → GoesThrough (λ c. life_set c name life)
+  pub rolled_over : (name : List ℕ) (now : ℤ) → GoesThrough (λ c. rolled_over c name now)
+  pub blocked : (n : List ℕ) → GoesThrough (λ c. blocked_in c n)
+  pub moved : (moves : List Move) → GoesThrough (λ c. moved_all c moves)
+  pub index_deleted : (n : List ℕ) → GoesThrough (λ c. index_deleted c n)
+
+abbrev pub see_running : Running → Running
+see_running r = record r { catalog = see_catalog r.catalog }
+
+-- a lifecycle run asks for facts alone
+abbrev pub RunsGoThrough : Type 0
+RunsGoThrough = (c : PlainCatalog) (now : ℤ) → see_running (lifecycle_run c now) ≡ lifecycle_run (see_catalog c) now
+
+-- the index of this name may take the row
+abbrev pub TakesRow : PlainCatalog → List ℕ → Row → Type 0
+TakesRow c n row = (i : PlainIndex) → index_named n c.indices ≡ Some i → MayPut i.facts i.rows row
+
+abbrev pub PutsGoThrough : Type 0
+PutsGoThrough = (c : PlainCatalog) (n : List ℕ) (row : Row) → IsSoundCatalog c → TakesRow c n row →
+    see_catalog (put_into plain_way c n row) ≡ put_into seen_way (see_catalog c) n row
+
+-- places and numbers of rows don't ask for their order
+pub record RowTestsStay : Type 0 where
+  pub place : (key : List ℕ) (time : ℤ) (rows : List Row) → has_place key time (in_row_order rows) ≡ has_place key time rows
+  pub number : (rows : List Row) → length (in_row_order rows) ≡ length rows
+
+-- what is shown of an index has the series of its rows
+abbrev pub SeriesStay : Type 0
+SeriesStay = (i : PlainIndex) → IsIndexSound i → series_of (see_index i).rows ≡ series_of i.rows
+
+abbrev pub DownsamplesGoThrough : Type 0
+DownsamplesGoThrough = (c : PlainCatalog) (source target : List ℕ) (by : Interval) → IsSoundCatalog c → downsample_refusal (facts_of c) source target by ≡ None →
+    see_catalog (downsampled plain_way c source target by) ≡ downsampled seen_way (see_catalog c) source target by
+
+abbrev pub UnitsGoThrough : Type 0
+UnitsGoThrough = (c : PlainCatalog) → IsSoundCatalog c → see_catalog (unit_of plain_way c) ≡ unit_of seen_way (see_catalog c)
+
+-- what a task keeps of what is shown is what it keeps of all rows
+abbrev pub TasksKeep : Type 0
+TasksKeep = (c : PlainCatalog) → IsSoundCatalog c → Each (λ task. (i : PlainIndex) → index_named task.index c.indices ≡ Some i → kept_rows task (see_index i) ≡ kept_rows task i) c.tasks
+
+-- the rows of an index that answer
+pub record AreShown (schema : Schema) (rows : List Row) : Type 0 where
+  pub each : Each (IsRowOf schema) rows
+  pub order : AreInRowOrder rows
+  pub few : documents rows ≤ 16777216
+
+-- an index that is seen again itself has rows that fit, in order, and few
+abbrev pub ShownRows : Type 0
+ShownRows = (c : PlainCatalog) (n : List ℕ) (i : PlainIndex) → IsSeenCatalog c → index_named n c.indices ≡ Some i → AreShown i.facts.mapping.schema i.rows
+
+-- ---- sound catalogues stay sound
+
+abbrev pub PutsKeepSound : Type 0
+PutsKeepSound = (c : PlainCatalog) (n : List ℕ) (row : Row) → IsSoundCatalog c → TakesRow c n row → IsSoundCatalog (put_into plain_way c n row)
+
+abbrev pub BlocksKeepSound : Type 0
+BlocksKeepSound = (c : PlainCatalog) (n : List ℕ) → IsSoundCatalog c → IsSoundCatalog (blocked_in c n)
+
+abbrev pub DownsamplesKeepSound : Type 0
+DownsamplesKeepSound = (c : PlainCatalog) (source target : List ℕ) (by : Interval) → IsSoundCatalog c → downsample_refusal (facts_of c) source target by ≡ None →
+    IsSoundCatalog (downsampled plain_way c source target by)
+
+abbrev pub UnitsKeepSound : Type 0
+UnitsKeepSound = (c : PlainCatalog) → IsSoundCatalog c → IsSoundCatalog (unit_of plain_way c)
+
+abbrev pub LivesKeepSound : Type 0
+LivesKeepSound = (c : PlainCatalog) (name : List ℕ) (life : Lifecycle) → IsLifecycle life → IsSoundCatalog c → IsSoundCatalog (life_set c name life)

@@ -1,0 +1,15 @@
+pub mod Plain
+pub mod Ways
+pub mod Lists
+pub mod Wanted
+pub mod Names
+pub mod Roles
+pub mod Streams
+pub mod Indices
+pub mod Moves
+pub mod Rounds
+pub mod Puts
+pub mod Units
+pub mod Sound
+pub mod Laws
+pub mod Examples

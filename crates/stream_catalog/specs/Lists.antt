@@ -1,0 +1,76 @@
+-- Lists of things that have names, and tests one after another.
+use Rattle.std.specs.Prelude.{ℕ, Bool, true, false, not, List, [], ◌∷◌, filter, Option, Some, None, if◌then◌else◌, bytes_eq}
+use Rattle.std.specs.Ordering.{is_le, nat_cmp}
+use Rattle.std.specs.Cmp.Lexicographic.{slice_cmp}
+use Rattle.stream_catalog.specs.Plain.{PlainIndex, PlainStream}
+use Rattle.stream_catalog.specs.declared.facts.HeldIndex.{HeldIndex}
+use Rattle.ts_mapping.specs.declared.templates.Template.{Template}
+
+-- ---- tests
+
+abbrev pub when : {A : Type 0} → Bool → A → Option A
+when true a = Some a
+when false a = None
+
+-- b where there is nothing, else what f says of it
+abbrev pub on_found : {A B : Type 0} → Option A → B → (A → Option B) → Option B
+on_found None b f = Some b
+on_found (Some a) b f = f a
+
+-- b where there is nothing, else what f makes of it
+abbrev pub with_found : {A B : Type 0} → Option A → B → (A → B) → B
+with_found None b f = b
+with_found (Some a) b f = f a
+
+-- the first that is there
+abbrev pub first_of : {A : Type 0} → List (Option A) → Option A
+first_of [] = None
+first_of (Some a ∷ rest) = Some a
+first_of (None ∷ rest) = first_of rest
+
+-- ---- by name
+
+-- the first of a name
+abbrev pub named : {A : Type 0} → (A → List ℕ) → List ℕ → List A → Option A
+named name n [] = None
+named name n (x ∷ xs) = if bytes_eq (name x) n then Some x else named name n xs
+
+-- the first of a name changed
+abbrev pub updated : {A : Type 0} → (A → List ℕ) → List ℕ → (A → A) → List A → List A
+updated name n g [] = []
+updated name n g (x ∷ xs) = if bytes_eq (name x) n then g x ∷ xs else x ∷ updated name n g xs
+
+-- one put among others by name
+abbrev pub inserted : {A : Type 0} → (A → List ℕ) → A → List A → List A
+inserted name x [] = x ∷ []
+inserted name x (y ∷ ys) = if is_le (slice_cmp nat_cmp (name x) (name y)) then x ∷ y ∷ ys else y ∷ inserted name x ys
+
+-- all but those of a name
+abbrev pub without : {A : Type 0} → (A → List ℕ) → List ℕ → List A → List A
+without name n xs = filter (λ x. not (bytes_eq (name x) n)) xs
+
+-- ---- templates, streams, indices
+
+abbrev pub template_name : Template → List ℕ
+template_name t = t.name
+
+abbrev pub stream_name : PlainStream → List ℕ
+stream_name s = s.facts.name
+
+abbrev pub facts_name : HeldIndex → List ℕ
+facts_name f = f.name
+
+abbrev pub index_name : PlainIndex → List ℕ
+index_name i = i.facts.name
+
+abbrev pub template_named : List ℕ → List Template → Option Template
+template_named = named template_name
+
+abbrev pub stream_named : List ℕ → List PlainStream → Option PlainStream
+stream_named = named stream_name
+
+abbrev pub facts_named : List ℕ → List HeldIndex → Option HeldIndex
+facts_named = named facts_name
+
+abbrev pub index_named : List ℕ → List PlainIndex → Option PlainIndex
+index_named = named index_name

@@ -1,0 +1,47 @@
+-- Rows that are put, and which index takes them.
+use Rattle.std.specs.Prelude.{◌≡◌, ℕ, ℤ, Bool, ◌&&◌, true, false, int_le, int_lt, nat_le, List, length, bytes_eq, Option, Some, None, Result, Ok, Err, if◌then◌else◌}
+use Rattle.std.specs.List.{list_any, find}
+use Rattle.std.specs.Ordering.{int_eq}
+use Rattle.row_cells.specs.declared.rows.Row.{Row}
+use Rattle.stream_catalog.specs.declared.answers.PickError.{PickError}
+use Rattle.stream_catalog.specs.declared.answers.PickError.TheVariants.{NoWindow, Blocked}
+use Rattle.stream_catalog.specs.declared.facts.HeldIndex.{HeldIndex}
+use Rattle.stream_catalog.specs.Plain.{PlainStream, PlainCatalog, PlainFacts}
+use Rattle.stream_catalog.specs.Ways.{Way}
+use Rattle.stream_catalog.specs.Lists.{with_found, updated, index_name, facts_named}
+use Rattle.stream_catalog.specs.Names.{most_documents}
+use Rattle.stream_catalog.specs.Wanted.{IsRowOf}
+
+-- a window has its start, and not its end
+abbrev pub has_time : HeldIndex → ℤ → Bool
+has_time i t = int_le i.start t && int_lt t i.end
+
+-- the member whose window has a time
+abbrev pub member_at : PlainFacts → ℤ → PlainStream → Option (List ℕ)
+member_at f t s = find (λ m. with_found (facts_named m f.indices) false (λ i. has_time i t)) s.facts.members
+
+abbrev pub picked_from : Option HeldIndex → Result (List ℕ) PickError
+picked_from None = Err NoWindow
+picked_from (Some i) = if i.blocked then Err Blocked else Ok i.name
+
+-- the member that takes a document of a time
+abbrev pub picked_by : PlainFacts → PlainStream → ℤ → Result (List ℕ) PickError
+picked_by f s t = with_found (member_at f t s) (Err NoWindow) (λ m. picked_from (facts_named m f.indices))
+
+-- some row is of this series and time
+abbrev pub has_place : List ℕ → ℤ → List Row → Bool
+has_place key time rows = list_any (λ r. bytes_eq r.key key && int_eq r.time time) rows
+
+abbrev pub is_full : List Row → Bool
+is_full rows = nat_le most_documents (length rows)
+
+-- an index may take a row: it takes documents, its window has the time, the place is free, there is room, and the row is of its schema
+pub record MayPut (facts : HeldIndex) (rows : List Row) (row : Row) : Type 0 where
+  pub takes : facts.blocked ≡ false
+  pub within : has_time facts row.time ≡ true
+  pub free : has_place row.key row.time rows ≡ false
+  pub room : is_full rows ≡ false
+  pub row_of : IsRowOf facts.mapping.schema row
+
+abbrev pub put_into : Way → PlainCatalog → List ℕ → Row → PlainCatalog
+put_into way c n row = record c { indices = updated index_name n (λ i. record i { rows = way.added row i.rows }) c.indices }

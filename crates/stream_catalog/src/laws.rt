@@ -1,0 +1,43 @@
+//! The laws that tie a plain catalogue to what is seen of it, for crates above.
+ghost use Rattle.stream_catalog.specs.Laws.{SeenAgain, FactsStay, ChangesGoThrough, RunsGoThrough, PutsGoThrough, RowTestsStay, SeriesStay, DownsamplesGoThrough, UnitsGoThrough, TasksKeep, ShownRows};
+ghost use Rattle.stream_catalog.specs.Laws.{DownsamplesKeepSound, LivesKeepSound, PutsKeepSound, UnitsKeepSound, BlocksKeepSound};
+
+/// What is seen of a sound catalogue is sound, and seen again itself.
+pub fn seen_again()
+    ensures { SeenAgain }
+{}
+
+/// Seeing leaves facts, places and numbers of rows, and series; so tests answer alike.
+pub fn tests_stay()
+    ensures facts { FactsStay }
+    ensures rows { RowTestsStay }
+    ensures series { SeriesStay }
+{}
+
+/// Each change of what is seen is what is seen of the change.
+pub fn changes_go_through()
+    ensures changes { ChangesGoThrough }
+    ensures runs { RunsGoThrough }
+    ensures puts { PutsGoThrough }
+    ensures downsamples { DownsamplesGoThrough }
+    ensures units { UnitsGoThrough }
+{}
+
+/// What a task keeps of what is shown is what it keeps of all rows.
+pub fn tasks_keep()
+    ensures { TasksKeep }
+{}
+
+/// A sound catalogue stays sound.
+pub fn changes_keep_sound()
+    ensures puts { PutsKeepSound }
+    ensures blocks { BlocksKeepSound }
+    ensures downsamples { DownsamplesKeepSound }
+    ensures units { UnitsKeepSound }
+    ensures lives { LivesKeepSound }
+{}
+
+/// The rows of an index that is seen again itself fit its schema, in order, and are few.
+pub fn shown_rows()
+    ensures { ShownRows }
+{}

@@ -1,0 +1,13 @@
+//! Streams and their indices: what a plain catalogue of them is, what each change leaves, and the laws that tie it to what is
+//! seen of it.
+#![tactic(auto)]
+
+mod answers;
+mod facts;
+mod laws;
+
+pub use answers::{CatalogError, Move, PickError, Ran, Rolled, What};
+pub use facts::{HeldIndex, StreamFacts, TaskFacts};
+pub use laws::{
+    changes_go_through, changes_keep_sound, seen_again, shown_rows, tasks_keep, tests_stay,
+};
