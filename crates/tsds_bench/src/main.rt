@@ -6,7 +6,7 @@ mod blocks;
 mod columns;
 mod documents;
 mod fold_rows;
-mod script_rows;
+mod samples;
 mod segments;
 mod templates;
 mod time_print;

@@ -3,17 +3,21 @@
 //! the 10,000 rows of a series, `segment-hour` those of one hour, `segment-gauge` folds a gauge over that hour, and
 //! `segment-find` looks a row of the series up. With SIZE 0 what is needed is made, and nothing else.
 ghost use Rattle.std.specs.Prelude.{◌≡◌, ◌<◌};
-ghost use Rattle.index_segment.specs.Rows.{AreRowsOf};
+ghost use Rattle.row_cells.specs.KeyedRows.{AreRowsOf};
 ghost use Rattle.row_cells.specs.Mapped.{IsMapped};
-ghost use Rattle.tsds_bench.specs.Segments.{script_schema};
+ghost use Rattle.index_segment.specs.Looks.{IsGaugeAt};
 
-use crate::script_rows::{EACH, START, STEP, rows_of, schema_of};
+use crate::samples::{START, STEP, rows_of, schema_of};
 use anyhow::{Result, bail};
 use index_segment::{Segment, Steps};
 use row_cells::{Cell, Key, Row, Scalar, Schema};
+use sample_rows::is_gauge_at;
 use std::alloc::Global;
 use std::marker::Brand;
 use std::sync::ledger::{Blank, Ledger};
+
+/// How many rows each series has.
+const EACH: u32 = 10_000;
 
 /// The place of the gauge among the fields.
 const CPU: u32 = 2;
@@ -97,12 +101,12 @@ fn scans(
     Ok(sum)
 }
 
-fn gauges(segment: &Segment, key: &Key, rounds: u64) -> u64
-    requires { segment.now.schema ≡ script_schema }
+fn gauges(segment: &Segment, key: &Key, place: u32, rounds: u64) -> u64
+    requires { IsGaugeAt segment.now.schema.fields place }
 {
     let mut sum = 0u64;
     for _ in 0..rounds {
-        if let Some(parts) = segment.gauge(key, CPU, HOUR.0, HOUR.1).0 {
+        if let Some(parts) = segment.gauge(key, place, HOUR.0, HOUR.1).0 {
             sum = sum.wrapping_add(parts.max.cast_unsigned());
         }
     }
@@ -127,7 +131,7 @@ fn finds<L: Ledger>(segment: &Segment, key: &Key, rounds: u64, blank: Blank) -> 
 
 fn asked(alloc: Global, schema: &Schema, segment: &Segment, case: &str, rounds: u64) -> Result<u64>
     requires mapped { IsMapped schema.now }
-    requires of { segment.now.schema ≡ script_schema }
+    requires of { segment.now.schema ≡ schema.now }
 {
     let Some(key) = segment.series_after(alloc, None)? else {
         bail!("no rows");
@@ -137,7 +141,9 @@ fn asked(alloc: Global, schema: &Schema, segment: &Segment, case: &str, rounds: 
         "read" => reads(alloc, schema, segment, rounds),
         "scan" => scans(alloc, segment, &key, ALL, rounds),
         "hour" => scans(alloc, segment, &key, HOUR, rounds),
-        "gauge" => Ok(gauges(segment, &key, rounds)),
+        "gauge" if is_gauge_at(schema.fields.as_slice(), CPU) => {
+            Ok(gauges(segment, &key, CPU, rounds))
+        }
         "find" => Ok(finds::<Brand>(segment, &key, rounds, Blank::new(1))),
         _ => bail!("no such case"),
     }
@@ -146,7 +152,7 @@ fn asked(alloc: Global, schema: &Schema, segment: &Segment, case: &str, rounds: 
 /// A sum over what a case gives, so many times.
 pub fn run(alloc: Global, case: &str, rounds: u64) -> Result<u64> {
     let schema = schema_of(alloc)?;
-    let rows = rows_of(alloc, &schema)?;
+    let rows = rows_of(alloc, &schema, EACH)?;
     match case {
         "pass" => Ok(passes(rows.as_slice(), rounds)),
         "build" => builds(alloc, &schema, rows.as_slice(), rounds),

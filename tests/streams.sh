@@ -1,0 +1,108 @@
+#!/usr/bin/env bash
+# Tries a built program, whose path is the first argument, over real streams: full, closed, of another kind, cut off.
+# One line a case; the last line is the number of failures, and the status is 0 where there are none.
+set -u
+program=$(realpath "$1") || exit 2
+there=$(mktemp -d) || exit 2
+trap 'rm -rf "$there"' EXIT
+cd "$there" || exit 2
+printf 'GET /m/_count\n' > one.tsds
+printf '200 {"count":0}\n' > one.replies
+failures=0
+
+# A case: its name, the wanted status, and the status that came.
+check() {
+    if [ "$2" -eq "$3" ]; then
+        echo "ok: $1"
+    else
+        echo "FAILED: $1: status $3 and not $2"
+        failures=$((failures + 1))
+    fi
+}
+
+# What a case wrote must be the same as a file.
+same() {
+    if cmp -s "$2" "$3"; then
+        echo "ok: $1"
+    else
+        echo "FAILED: $1: $2 isn't $3"
+        failures=$((failures + 1))
+    fi
+}
+
+"$program" run < one.tsds > out 2> err
+check "a script from a file to a file" 0 $?
+same "its reply" out one.replies
+: > nothing
+same "nothing on standard error" err nothing
+"$program" run < nothing > out 2> err
+check "an empty script" 0 $?
+same "no reply" out nothing
+
+"$program" > out 2> err < one.tsds
+check "no word" 2 $?
+printf 'tsds: usage\n' > usage
+same "usage on standard error" err usage
+same "nothing on standard output" out nothing
+"$program" run again < one.tsds > out 2> err
+check "a word too many" 2 $?
+"$program" $'r\xffn' < one.tsds > out 2> err
+check "a word that isn't UTF-8" 2 $?
+same "usage on standard error for it" err usage
+
+"$program" run < "$there" > out 2> err
+check "a folder as standard input" 4 $?
+printf 'tsds: read fault\n' > read_fault
+same "read fault on standard error" err read_fault
+"$program" run <&- > out 2> err
+check "a closed standard input" 4 $?
+
+"$program" run < one.tsds >&- 2> err
+check "a closed standard output" 7 $?
+printf 'tsds: write fault\n' > write_fault
+same "write fault on standard error" err write_fault
+"$program" run < one.tsds > /dev/full 2> err
+check "a full standard output" 7 $?
+(
+    trap '' PIPE
+    "$program" run < one.tsds 2> err
+    echo $? > status
+) | true
+sleep 1
+check "a standard output that nobody reads" 7 "$(cat status)"
+(
+    "$program" run < one.tsds 2> err
+    echo $? > status
+) | sleep 1
+check "a standard output that is not read" 0 "$(cat status)"
+
+"$program" run < one.tsds > out 2>&-
+check "a closed standard error" 0 $?
+"$program" 2>&- > out < one.tsds
+check "usage with a closed standard error" 2 $?
+"$program" 2> /dev/full > out < one.tsds
+check "usage with a full standard error" 2 $?
+"$program" run < "$there" 2> /dev/full > out
+check "a read fault with a full standard error" 4 $?
+"$program" run < one.tsds 2>&- >&-
+check "closed standard output and error" 7 $?
+
+# Bytes of a pipe that come one after another are one script.
+{ printf 'GET /m/_co'; sleep 1; printf 'unt\n\nGET /m/'; sleep 1; printf '_count'; } | "$program" run > out 2> err
+check "a script in pieces" 0 $?
+cat one.replies one.replies > two.replies
+same "its replies" out two.replies
+
+head -c 1048577 /dev/zero | tr '\0' x | "$program" run > out 2> err
+check "a line that is too long" 8 $?
+{ cat one.tsds; echo; head -c 1048577 /dev/zero | tr '\0' x; } | "$program" run > out 2> err
+check "a line that is too long behind a request" 8 $?
+same "the reply before it" out one.replies
+
+# No memory for the program's work, as far as a limit on the address space shows it: 3, and no reply.
+(ulimit -v 8192; exec "$program" run) < one.tsds > out 2> err
+status=$?
+[ "$status" -eq 0 ] && same "a small address space" out one.replies || check "a small address space" 3 "$status"
+
+echo "$failures"
+[ "$failures" -eq 0 ]
