@@ -21,7 +21,7 @@ use Rattle.tsds_cli.specs.declared.script.ScriptError.{ScriptError}
 use Rattle.tsds_cli.specs.declared.script.ScriptError.TheVariants.{Read, TooLong, NoMemory}
 use Rattle.tsds_cli.specs.Errors.{script_error_of}
 use Rattle.tsds_cli.specs.Script.{Place, between, within, closes, next_place, at_end, closed_from, events_from, whole_lines, is_empty, is_skipped, is_moment}
-use Rattle.tsds_cli.specs.Limits.{is_long_piece, is_long_place, is_over, long_from, fine_from}
+use Rattle.tsds_cli.specs.Limits.{is_long_piece, is_long_place, is_over, long_from, fine_from, passed_from}
 use Rattle.tsds_cli.specs.Ahead.{Ahead, ahead_in, ahead_of, behind, Passed, IsAtEnd, Stopped, opened, opens}
 use Rattle.tsds_cli.proofs.PiecesLemmas.{pieces-split}
 
@@ -56,6 +56,7 @@ looked place before after old new kept counted still = record {
   gone = [];
   moved = sym kept ∙ sym (preceded-nothing (left_of after new));
   closed = λ going more. refl;
+  short = λ going more. ap (λ n. passed_from place n (pieces_of more)) (sym counted);
   ahead = sym (ahead_same place after before new old kept counted) ∙ behind-nothing (ahead_of place after new);
   still = still;
   counted = omega (arith, counted);
@@ -69,6 +70,7 @@ passed-passed one two from middle to first second third a b c p q = record {
   closed = λ going more.
       ap (λ l. closed_from from (whole_lines l)) (append_assoc p.gone q.gone more) ∙ p.closed (q.still going) (q.gone ++ more)
       ∙ ap (λ l. one ++ l) (q.closed going more) ∙ sym (append_assoc one two (closed_from to (whole_lines more)));
+  short = λ going more. ap (λ l. passed_from from first.answered (pieces_of l)) (append_assoc p.gone q.gone more) ∙ p.short (q.still going) (q.gone ++ more) ∙ q.short going more;
   ahead = p.ahead ∙ ap (option_map (behind one)) q.ahead ∙ behind-behind one two (ahead_of to third c);
   still = λ going. p.still (q.still going);
   counted = omega (arith, p.counted, q.counted);
@@ -82,7 +84,7 @@ whole-front n waiting more e inside =
     ap (λ ps. map line_of (filter (ends_with_byte 10) ps)) (pieces-split (piece ++ more) piece more (e.piece more) (e.after more) some)
     ∙ ap (λ v. map line_of (cond v (piece ∷ filter (ends_with_byte 10) (pieces_of more)) (filter (ends_with_byte 10) (pieces_of more)))) e.ends
 
-short_piece : (piece : List ℕ) → length (strip_last 10 piece) ≤ line_limit → is_long_piece piece ≡ false
+pub short_piece : (piece : List ℕ) → length (strip_last 10 piece) ≤ line_limit → is_long_piece piece ≡ false
 unfolding is_long_piece
 short_piece piece short = grind (arith, nat_tests)
 
@@ -119,17 +121,32 @@ line-passed place n line shown after left shows some is fits passed =
       gone = (take n shown.pending);
       moved = ap (λ l. preceded l left) (sym (take-append-drop n shown.pending)) ∙ sym (preceded-preceded (take n shown.pending) (drop n shown.pending) left);
       closed = λ going more. by_how going shows.shown.how more;
+      short = λ going more. held going shows.shown.how more;
       ahead = told left shows;
       still = λ going. going;
       counted = omega arith;
     }))
   where
+    ends-not : ◌≡◌ {A = Bool} true false → ⊥
+    ends-not h = cc
+
+    held : shown.ended ≡ false → EndsInNewline n shown.pending ⊎ EndsInput n shown.pending shown.ended → (more : List ℕ)
+        → passed_from place shown.answered (pieces_of (take n shown.pending ++ more)) ≡ passed_from (next_place place (line_of (take n shown.pending))) (shown.answered + n) (pieces_of more)
+    held going (inr e) more = absurd (ends-not (sym e.source ∙ going))
+    held going (inl e) more =
+        let piece : List ℕ = take n shown.pending in
+        let next : Place = next_place place (line_of piece) in
+        let inside : n ≤ length shown.pending = shows.shown.inside in
+        let count : length piece ≡ n = omega (arith, length-take n shown.pending) in
+        let later : Bool = passed_from next (shown.answered + length piece) (pieces_of more) in
+        ap (passed_from place shown.answered) (pieces-split (piece ++ more) piece more (e.piece more) (e.after more) (omega (arith, count, some)))
+        ∙ ap (λ v. cond v (is_over place shown.answered piece) (is_long_piece piece) || later) e.ends
+        ∙ ap (λ v. v || later) (not-over place shown.answered piece shows.short (omega (arith, count, shows.within)) (sym (ap (λ l. is_long_place (next_place place l)) is) ∙ fits))
+        ∙ ap (λ k. passed_from next (shown.answered + k) (pieces_of more)) count
+
     by_how : shown.ended ≡ false → EndsInNewline n shown.pending ⊎ EndsInput n shown.pending shown.ended → (more : List ℕ) → closed_from place (whole_lines ((take n shown.pending) ++ more)) ≡ closes place (line_of (take n shown.pending)) ++ closed_from (next_place place (line_of (take n shown.pending))) (whole_lines more)
     by_how going (inl e) more = ap (closed_from place) (whole-front n shown.pending more e shows.shown.inside)
-    by_how going (inr e) more = absurd (no (sym e.source ∙ going))
-      where
-        no : ◌≡◌ {A = Bool} true false → ⊥
-        no h = cc
+    by_how going (inr e) more = absurd (ends-not (sym e.source ∙ going))
 
     told : (left : Option (List ℕ)) → ShowsLine n shown left → ahead_of place shown left ≡ option_map (behind (closes place (line_of (take n shown.pending)))) (ahead_of (next_place place (line_of (take n shown.pending))) (record { pending = drop n shown.pending; answered = shown.answered + n; refused = shown.refused; ended = shown.ended }) left)
     told None shows = refl
@@ -147,6 +164,7 @@ end-passed place n shown left shows zero = record {
   gone = [];
   moved = sym (preceded-nothing (left_of shown left));
   closed = λ going more. absurd (no (sym (ended shows.shown.how) ∙ going));
+  short = λ going more. absurd (no (sym (ended shows.shown.how) ∙ going));
   ahead = told left shows;
   still = λ going. going;
   counted = omega arith;
@@ -221,7 +239,7 @@ too_long place before (b ∷ all) bytes limit (inr past) =
 -- why a refused line stops the script
 pub stopped-line : (from place : Place) (error : LineError) (before shown : Reading) (old left : Option (List ℕ)) (count now : ℕ) → Passed from [] place before shown old left → shown.answered ≤ input_limit → CauseOf error shown left count now
     → Stopped from (script_error_of error) before shown old left
-stopped-line from place line.Read before shown old left count now passed limit cause = record { place = place; passed = passed; why = (cause.0, cause.1) }
+stopped-line from place line.Read before shown old left count now passed limit cause = record { place = place; passed = passed; why = (cause.0, cause.1, cause.3) }
 stopped-line from place (line.TooLong bytes) before shown old left count now passed limit cause = record { place = place; passed = passed; why = told left cause.0 }
   where
     told : (left : Option (List ℕ)) → IfSome (left_of shown left) (λ all. IsTooLong shown.answered all bytes) → IfSome (ahead_of place shown left) (λ ahead. (ahead.fine ≡ []) × (ahead.long ≡ true))

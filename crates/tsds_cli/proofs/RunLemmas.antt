@@ -1,13 +1,14 @@
 -- A run of a script, event by event.
-use Rattle.std.proofs.Common.{◌≡◌, ◌∙◌, ℕ, suc, ◌-◌, ◌==◌, ◌&&◌, ◌⊎◌, inl, inr, Bool, true, false, nat_lt, cond, List, [], ◌∷◌, ◌++◌, length, map, Option, None, Some, IfSome, refl, ap, sym, subst, arith, append_assoc, append-nil}
+use Rattle.std.proofs.Common.{◌≡◌, ◌∙◌, ℕ, suc, ◌-◌, ◌==◌, ◌&&◌, ◌||◌, ◌≤◌, ◌⊎◌, inl, inr, Bool, true, false, nat_lt, cond, List, [], ◌∷◌, ◌++◌, length, take, map, Option, None, Some, IfSome, refl, ap, sym, subst, arith, append_assoc, append-nil}
 use Rattle.std.specs.List.{filter, concat, slice_index}
 use Rattle.std.specs.Option.{option_map}
 use Rattle.std.specs.Prelude.{IfErr, IsErrAnd, Result}
 use Rattle.std.proofs.lemmas.Result.{err_from_is_err_and}
-use Rattle.std.specs.Io.BufRead.{ends_with_byte}
+use Rattle.std.specs.Io.BufRead.{ends_with_byte, strip_last}
 use Rattle.std.proofs.lemmas.Bool.{ne_eqb}
 use Rattle.edge_face.specs.Contents.{appended, preceded}
 use Rattle.edge_face.specs.Waiting.{KnowsEnd}
+use Rattle.edge_face.specs.Limits.{line_limit}
 use Rattle.edge_face.specs.Lines.{pieces_of, line_of, with_first, HasNoNewline}
 use Rattle.edge_face.specs.Reading.{Reading, left_of}
 use Rattle.tsds_cli.specs.Script.{Event}
@@ -16,12 +17,12 @@ use Rattle.tsds_cli.specs.declared.script.ScriptError.TheVariants.{Read, TooLong
 use Rattle.tsds_cli.specs.declared.program.RunError.{RunError}
 use Rattle.tsds_cli.specs.declared.program.RunError.TheVariants as run
 use Rattle.tsds_cli.specs.Script.{Place, between, closed_of, events_of, closed_from, events_from, whole_lines, lines_of}
-use Rattle.tsds_cli.specs.Limits.{fine_of, is_too_long}
+use Rattle.tsds_cli.specs.Limits.{fine_of, is_too_long, is_over, is_long_piece, passed_from}
 use Rattle.tsds_cli.specs.Ahead.{Ahead, ahead_in, ahead_of, behind, Passed, IsAtEnd, Stopped}
 use Rattle.tsds_cli.specs.Play.{Play, text_of, with_reply, replies, after_events, PutAll, IsBehind}
-use Rattle.tsds_cli.specs.Ends.{EndsBy, Broke, IsPut, Reached, IsFront, IsNear, PutFront, PutPart, PutFine}
+use Rattle.tsds_cli.specs.Ends.{EndsBy, Broke, IsPut, Reached, IsFront, IsFine, IsNear, PutFront, PutPart, PutFine}
 use Rattle.tsds_cli.specs.Words.{run_error_of}
-use Rattle.tsds_cli.proofs.PassLemmas.{passed-passed, preceded-preceded, preceded-nothing}
+use Rattle.tsds_cli.proofs.PassLemmas.{passed-passed, preceded-preceded, preceded-nothing, short_piece}
 
 -- a reader that has read nothing
 abbrev pub fresh : Reading
@@ -50,13 +51,27 @@ and-false : (b : Bool) → (b && false) ≡ false
 and-false true = refl
 and-false false = refl
 
+not-ended : (b : ℕ) (bytes : List ℕ) → HasNoNewline (b ∷ bytes) → ends_with_byte 10 (b ∷ bytes) ≡ false
+not-ended b bytes none =
+    let all : List ℕ = b ∷ bytes in
+    let last : (slice_index all (length all - 1) == 10) ≡ false = ne_eqb (slice_index all (length all - 1)) 10 (none (length all - 1) (omega arith)) in
+    ap (λ v. nat_lt 0 (length all) && v) last ∙ and-false (nat_lt 0 (length all))
+
 pub none-whole : (bytes : List ℕ) → HasNoNewline bytes → whole_lines bytes ≡ []
 none-whole [] none = refl
 none-whole (b ∷ bytes) none =
+    ap (λ ps. map line_of (filter (ends_with_byte 10) ps)) (pieces-none b bytes none) ∙ ap (λ v. map line_of (cond v ((b ∷ bytes) ∷ []) [])) (not-ended b bytes none)
+
+-- and they pass no length where they may be a line
+none-passed : (place : Place) (before : ℕ) (bytes : List ℕ) → HasNoNewline bytes → length bytes ≤ line_limit → passed_from place before (pieces_of bytes) ≡ false
+none-passed place before [] none short = refl
+none-passed place before (b ∷ bytes) none short =
     let all : List ℕ = b ∷ bytes in
-    let last : (slice_index all (length all - 1) == 10) ≡ false = ne_eqb (slice_index all (length all - 1)) 10 (none (length all - 1) (omega arith)) in
-    let ends : ends_with_byte 10 all ≡ false = ap (λ v. nat_lt 0 (length all) && v) last ∙ and-false (nat_lt 0 (length all)) in
-    ap (λ ps. map line_of (filter (ends_with_byte 10) ps)) (pieces-none b bytes none) ∙ ap (λ v. map line_of (cond v (all ∷ []) [])) ends
+    let ends = not-ended b bytes none in
+    let same : length (strip_last 10 all) ≡ length all = ap (λ v. length (cond v (take (length all - 1) all) all)) ends in
+    ap (passed_from place before) (pieces-none b bytes none)
+    ∙ ap (λ v. cond v (is_over place before all) (is_long_piece all) || false) ends
+    ∙ ap (λ v. v || false) (short_piece all (omega (arith, same, short)))
 
 -- what was taken from the source
 taken-is : (es : List Event) (to : Place) (reader : Reading) (script left : Option (List ℕ)) (p : Passed between es to fresh reader script left) → script ≡ preceded (p.gone ++ reader.pending) left
@@ -74,6 +89,21 @@ told-ahead es (Some all) (Some a) P is h = (a, some is, h)
   where
     some : {x y : Ahead} → ◌≡◌ {A = Option Ahead} (Some x) (Some y) → x ≡ y
     some e = cc
+
+-- the events passed come before the first length
+fine-front : (es : List Event) (to : Place) (reader : Reading) (script left : Option (List ℕ)) → Passed between es to fresh reader script left → IsFine es script
+fine-front es to reader script left p = told script (ahead_of to reader left) p.ahead
+  where
+    none : {y : Ahead} → ◌≡◌ {A = Option Ahead} (Some y) None → ⊥
+    none e = cc
+
+    some : {x y : Ahead} → ◌≡◌ {A = Option Ahead} (Some x) (Some y) → x ≡ y
+    some e = cc
+
+    told : (script : Option (List ℕ)) (ahead : Option Ahead) → ahead_of between fresh script ≡ option_map (behind es) ahead → IsFine es script
+    told None ahead is = tt
+    told (Some all) None is = absurd (none is)
+    told (Some all) (Some a) is = (a.fine, ap (λ (a : Ahead). a.fine) (some is))
 
 -- the events that were done are a front of those that are closed, or of all
 pub front-more : Place → Bool → List ℕ → List Event
@@ -129,17 +159,17 @@ err-ends play start now r e script left given0 given exit ends =
     subst (λ r. IfErr r (λ y. EndsBy play start now y script left given0 given)) (sym answer.1) (subst (λ y. EndsBy play start now y script left given0 given) (sym answer.2) ends)
 
 module _ {S : Type 0} (play : Play S) where
-  pub replies-more : (s : S) (es : List Event) (e : Event) → concat (replies play s (es ++ e ∷ [])) ≡ concat (replies play s es) ++ text_of (play (after_events play s es) e).reply
-  replies-more s [] e = text-with (play s e).reply [] ∙ append-nil (text_of (play s e).reply)
+  pub replies-more : (s : S) (es : List Event) (e : Event) → concat (replies play s (es ++ e ∷ [])) ≡ concat (replies play s es) ++ text_of (play.act (after_events play s es) e).reply
+  replies-more s [] e = text-with (play.act s e).reply [] ∙ append-nil (text_of (play.act s e).reply)
   replies-more s (x ∷ es) e =
-      text-with (play s x).reply (replies play (play s x).after (es ++ e ∷ []))
-      ∙ ap (λ l. text_of (play s x).reply ++ l) (replies-more (play s x).after es e)
-      ∙ sym (append_assoc (text_of (play s x).reply) (concat (replies play (play s x).after es)) (text_of (play (after_events play (play s x).after es) e).reply))
-      ∙ ap (λ l. l ++ text_of (play (after_events play (play s x).after es) e).reply) (sym (text-with (play s x).reply (replies play (play s x).after es)))
+      text-with (play.act s x).reply (replies play (play.act s x).after (es ++ e ∷ []))
+      ∙ ap (λ l. text_of (play.act s x).reply ++ l) (replies-more (play.act s x).after es e)
+      ∙ sym (append_assoc (text_of (play.act s x).reply) (concat (replies play (play.act s x).after es)) (text_of (play.act (after_events play (play.act s x).after es) e).reply))
+      ∙ ap (λ l. l ++ text_of (play.act (after_events play (play.act s x).after es) e).reply) (sym (text-with (play.act s x).reply (replies play (play.act s x).after es)))
 
-  pub after-more : (s : S) (es : List Event) (e : Event) → after_events play s (es ++ e ∷ []) ≡ (play (after_events play s es) e).after
+  pub after-more : (s : S) (es : List Event) (e : Event) → after_events play s (es ++ e ∷ []) ≡ (play.act (after_events play s es) e).after
   after-more s [] e = refl
-  after-more s (x ∷ es) e = after-more (play s x).after es e
+  after-more s (x ∷ es) e = after-more (play.act s x).after es e
 
   -- before the first event
   pub reached-none : (start : S) (reader : Reading) (script given0 : Option (List ℕ)) → reader ≡ fresh → Reached play start start fresh reader script script given0 given0
@@ -151,6 +181,7 @@ module _ {S : Type 0} (play : Play S) where
       gone = [];
       moved = sym (preceded-nothing (left_of fresh script));
       closed = λ going more. refl;
+      short = λ going more. refl;
       ahead = none (ahead_of between fresh script);
       still = λ going. going;
       counted = omega arith;
@@ -163,13 +194,13 @@ module _ {S : Type 0} (play : Play S) where
 
   -- one event more
   pub one-more : (start now next : S) (reader reader' : Reading) (script left left' given0 given given' : Option (List ℕ)) (e : Event)
-      → Reached play start now fresh reader script left given0 given → Passed between (e ∷ []) between reader reader' left left' → next ≡ (play now e).after → given' ≡ appended given (text_of (play now e).reply)
+      → Reached play start now fresh reader script left given0 given → Passed between (e ∷ []) between reader reader' left left' → next ≡ (play.act now e).after → given' ≡ appended given (text_of (play.act now e).reply)
       → Reached play start next fresh reader' script left' given0 given'
   one-more start now next reader reader' script left left' given0 given given' e r p next_is put_is = record {
     done = r.done ++ e ∷ [];
-    state = next_is ∙ ap (λ s. (play s e).after) r.state ∙ sym (after-more start r.done e);
-    put = put_is ∙ ap (λ g. appended g (text_of (play now e).reply)) r.put ∙ ap (λ s. appended (appended given0 (concat (replies play start r.done))) (text_of (play s e).reply)) r.state
-        ∙ given_twice given0 (concat (replies play start r.done)) (text_of (play (after_events play start r.done) e).reply) ∙ ap (appended given0) (sym (replies-more start r.done e));
+    state = next_is ∙ ap (λ s. (play.act s e).after) r.state ∙ sym (after-more start r.done e);
+    put = put_is ∙ ap (λ g. appended g (text_of (play.act now e).reply)) r.put ∙ ap (λ s. appended (appended given0 (concat (replies play start r.done))) (text_of (play.act s e).reply)) r.state
+        ∙ given_twice given0 (concat (replies play start r.done)) (text_of (play.act (after_events play start r.done) e).reply) ∙ ap (appended given0) (sym (replies-more start r.done e));
     passed = passed-passed r.done (e ∷ []) between between between fresh reader reader' script left left' r.passed p;
   }
 
@@ -177,43 +208,47 @@ module _ {S : Type 0} (play : Play S) where
   pub front-of : (start now : S) (reader : Reading) (script left given0 given : Option (List ℕ)) → Reached play start now fresh reader script left given0 given → KnowsEnd reader.ended left → PutFront play start now script left given0 given
   front-of start now reader script left given0 given r knows =
       let f = fronts r.done between reader script left knows r.passed in
-      record { done = r.done; more = f.0; front = f.1; put = r.put; state = inl r.state }
+      record { done = r.done; more = f.0; front = f.1; fine = fine-front r.done between reader script left r.passed; put = r.put; state = inl r.state }
 
   -- no memory for an event that was read: nothing of it was put
   front-before : (start now state : S) (reader reader' : Reading) (script left left' given0 given : Option (List ℕ)) (e : Event) → Reached play start now fresh reader script left given0 given → Passed between (e ∷ []) between reader reader' left left' → KnowsEnd reader'.ended left'
-      → (state ≡ now) ⊎ (state ≡ (play now e).stepped) → PutFront play start state script left' given0 given
+      → play.left now e state ⊎ (state ≡ (play.act now e).stepped) → PutFront play start state script left' given0 given
   front-before start now state reader reader' script left left' given0 given e r p knows near =
-      let f = fronts (r.done ++ e ∷ []) between reader' script left' knows (passed-passed r.done (e ∷ []) between between between fresh reader reader' script left left' r.passed p) in
-      record { done = r.done; more = e ∷ f.0; front = front-next r.done e f.0 script left' f.1; put = r.put; state = by f.0 near }
+      let all = passed-passed r.done (e ∷ []) between between between fresh reader reader' script left left' r.passed p in
+      let f = fronts (r.done ++ e ∷ []) between reader' script left' knows all in
+      record { done = r.done; more = e ∷ f.0; front = front-next r.done e f.0 script left' f.1; fine = fine-front r.done between reader script left r.passed; put = r.put; state = by f.0 (fine-front (r.done ++ e ∷ []) between reader' script left' all) near }
     where
-      by : (more : List Event) → (state ≡ now) ⊎ (state ≡ (play now e).stepped) → IsNear play start state r.done (e ∷ more)
-      by more (inl same) = inl (same ∙ r.state)
-      by more (inr stepped) = inr (inl (record { next = e; later = more; first = refl; is = record { stepped = stepped ∙ ap (λ s. (play s e).stepped) r.state } }))
+      by : (more : List Event) → IsFine (r.done ++ e ∷ []) script → play.left now e state ⊎ (state ≡ (play.act now e).stepped) → IsNear play start state r.done (e ∷ more) script
+      by more fine (inl left) = inr (inl (record { next = e; later = more; first = refl; fine = fine; is = inl (subst (λ s. play.left s e state) r.state left) }))
+      by more fine (inr stepped) = inr (inl (record { next = e; later = more; first = refl; fine = fine; is = inr (record { stepped = stepped ∙ ap (λ s. (play.act s e).stepped) r.state }) }))
 
   -- no memory for the unit of an event: all of its reply was put
   front-behind : (start now state : S) (reader reader' : Reading) (script left left' given0 given given' : Option (List ℕ)) (e : Event) → Reached play start now fresh reader script left given0 given → Passed between (e ∷ []) between reader reader' left left' → KnowsEnd reader'.ended left'
-      → state ≡ (play now e).stepped → given' ≡ appended given (text_of (play now e).reply) → PutFront play start state script left' given0 given'
+      → state ≡ (play.act now e).stepped → given' ≡ appended given (text_of (play.act now e).reply) → PutFront play start state script left' given0 given'
   unfolding one-more
   front-behind start now state reader reader' script left left' given0 given given' e r p knows stepped put_is =
-      let all = one-more start now (play now e).after reader reader' script left left' given0 given given' e r p refl put_is in
+      let all = one-more start now (play.act now e).after reader reader' script left left' given0 given given' e r p refl put_is in
       let f = fronts all.done between reader' script left' knows all.passed in
-      record { done = all.done; more = f.0; front = f.1; put = all.put; state = inr (inr (record { earlier = r.done; last = e; end = refl; is = record { stepped = stepped ∙ ap (λ s. (play s e).stepped) r.state } })) }
+      record { done = all.done; more = f.0; front = f.1; fine = fine-front all.done between reader' script left' all.passed; put = all.put; state = inr (inr (record { earlier = r.done; last = e; end = refl; is = record { stepped = stepped ∙ ap (λ s. (play.act s e).stepped) r.state } })) }
 
   -- a first part of an event's reply was put
   part-of : (start now state : S) (reader reader' : Reading) (script left left' given0 given given' : Option (List ℕ)) (e : Event) → Reached play start now fresh reader script left given0 given → Passed between (e ∷ []) between reader reader' left left' → KnowsEnd reader'.ended left'
-      → state ≡ (play now e).stepped → IsPut (text_of (play now e).reply) given given' → PutPart play start state script left' given0 given'
+      → state ≡ (play.act now e).stepped → IsPut (text_of (play.act now e).reply) given given' → PutPart play start state script left' given0 given'
   part-of start now state reader reader' script left left' given0 given given' e r p knows stepped cut =
-      let f = fronts (r.done ++ e ∷ []) between reader' script left' knows (passed-passed r.done (e ∷ []) between between between fresh reader reader' script left left' r.passed p) in
+      let all = passed-passed r.done (e ∷ []) between between between fresh reader reader' script left left' r.passed p in
+      let f = fronts (r.done ++ e ∷ []) between reader' script left' knows all in
       record {
         done = r.done;
         next = e;
         more = f.0;
         front = front-next r.done e f.0 script left' f.1;
+        fine = fine-front (r.done ++ e ∷ []) between reader' script left' all;
         part = cut.part;
         cut = cut.more;
-        whole = cut.whole ∙ ap (λ s. text_of (play s e).reply) r.state;
+        some = cut.cut;
+        whole = cut.whole ∙ ap (λ s. text_of (play.act s e).reply) r.state;
         put = cut.given_is ∙ ap (λ g. appended g cut.part) r.put ∙ given_twice given0 (concat (replies play start r.done)) cut.part;
-        state = record { stepped = stepped ∙ ap (λ s. (play s e).stepped) r.state };
+        state = record { stepped = stepped ∙ ap (λ s. (play.act s e).stepped) r.state };
       }
 
   -- an event that broke off
@@ -243,13 +278,15 @@ module _ {S : Type 0} (play : Play S) where
       record {
         taken = p.gone ++ reader'.pending;
         taken_is = taken-is (r.done ++ []) s.place reader' script left' p;
+        short = p.short s.why.1 reader'.pending ∙ none-passed s.place reader'.answered reader'.pending s.why.0 s.why.2;
+        fine = subst (λ es. IsFine es script) (sym all) (fine-front r.done between reader script left r.passed);
         put = r.put ∙ ap (λ es. appended given0 (concat (replies play start es))) (sym all);
         state = r.state ∙ ap (after_events play start) (sym all);
       }
   ends-by start now NoMemory reader reader' script left left' given0 given r s knows =
       let p = passed-passed r.done [] between between s.place fresh reader reader' script left left' r.passed s.passed in
       let f = fronts (r.done ++ []) s.place reader' script left' knows p in
-      record { done = r.done; more = f.0; front = subst (λ es. IsFront es f.0 script left') (append-nil r.done) f.1; put = r.put; state = inl r.state }
+      record { done = r.done; more = f.0; front = subst (λ es. IsFront es f.0 script left') (append-nil r.done) f.1; fine = fine-front r.done between reader script left r.passed; put = r.put; state = inl r.state }
   ends-by start now TooLong reader reader' script left left' given0 given r s knows =
       let p = passed-passed r.done [] between between s.place fresh reader reader' script left left' r.passed s.passed in
       long script (told-ahead (r.done ++ []) script (ahead_of s.place reader' left') (λ a. (a.fine ≡ []) × (a.long ≡ true)) p.ahead s.why)

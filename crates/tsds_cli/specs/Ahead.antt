@@ -1,7 +1,8 @@
 -- What a script that is being read has ahead, and what calls took of it.
-use Rattle.std.specs.Prelude.{◌≡◌, ◌≤◌, ℕ, List, [], ◌∷◌, ◌++◌, Bool, true, false, map, Option, IfSome}
+use Rattle.std.specs.Prelude.{◌≡◌, ◌≤◌, ℕ, List, [], ◌∷◌, ◌++◌, length, Bool, true, false, map, Option, IfSome}
 use Rattle.std.specs.Option.{option_map}
 use Rattle.edge_face.specs.Contents.{preceded}
+use Rattle.edge_face.specs.Limits.{line_limit}
 use Rattle.edge_face.specs.Lines.{pieces_of, line_of, HasNoNewline}
 use Rattle.edge_face.specs.Reading.{Reading, left_of}
 use Rattle.tsds_cli.specs.Script.{Event}
@@ -12,7 +13,7 @@ use Rattle.tsds_cli.specs.declared.script.ScriptError.{ScriptError}
 use Rattle.tsds_cli.specs.declared.script.ScriptError.TheVariants.{Read, TooLong, NoMemory}
 use Rattle.tsds_cli.specs.Script as Script
 use Rattle.tsds_cli.specs.Script.{Place, between, within, whole_lines, events_from, closed_from}
-use Rattle.tsds_cli.specs.Limits.{long_from, fine_from}
+use Rattle.tsds_cli.specs.Limits.{long_from, fine_from, passed_from}
 
 -- the events that are still to come, those before a length is passed, and whether one is
 pub record Ahead : Type 0 where
@@ -35,11 +36,16 @@ behind events ahead = record { events = events ++ ahead.events; fine = events ++
 abbrev pub Closes : Place → List Event → Place → List ℕ → Type 0
 Closes place events to gone = (more : List ℕ) → closed_from place (whole_lines (gone ++ more)) ≡ events ++ closed_from to (whole_lines more)
 
+-- no length is passed in these bytes, where so many were before them and so many are with them, whatever follows
+abbrev pub Holds : Place → ℕ → Place → ℕ → List ℕ → Type 0
+Holds place before to now gone = (more : List ℕ) → passed_from place before (pieces_of (gone ++ more)) ≡ passed_from to now (pieces_of more)
+
 -- a reader went over bytes that lead from one place to another, and these events are closed in them
 pub record Passed (place : Place) (events : List Event) (to : Place) (before after : Reading) (old new : Option (List ℕ)) : Type 0 where
   pub gone : List ℕ
   pub moved : left_of before old ≡ preceded gone (left_of after new)
   pub closed : after.ended ≡ false → Closes place events to gone
+  pub short : after.ended ≡ false → Holds place before.answered to after.answered gone
   pub ahead : ahead_of place before old ≡ option_map (behind events) (ahead_of to after new)
   pub still : after.ended ≡ false → before.ended ≡ false
   pub counted : before.answered ≤ after.answered
@@ -52,7 +58,7 @@ pub record IsAtEnd (from place : Place) (before after : Reading) (old new : Opti
 
 -- why no further event comes, where the reader stands at this place
 abbrev pub WhyStopped : ScriptError → Place → Reading → Option (List ℕ) → Type 0
-WhyStopped Read place reader left = HasNoNewline reader.pending × (reader.ended ≡ false)
+WhyStopped Read place reader left = HasNoNewline reader.pending × (reader.ended ≡ false) × (length reader.pending ≤ line_limit)
 WhyStopped TooLong place reader left = IfSome (ahead_of place reader left) (λ ahead. (ahead.fine ≡ []) × (ahead.long ≡ true))
 WhyStopped NoMemory place reader left = Unit {0}
 

@@ -1,5 +1,5 @@
 -- The plain machine: one list of documents, and what it answers.
-use Rattle.std.specs.Prelude.{ℕ, ◌==◌, ℤ, pos, negsuc, List, [], ◌∷◌, ◌++◌, length, Bool, true, false, ◌&&◌, map, bytes_eq, codes, nat_lt, int_le, Option, None, Some, option_and_then, if◌then◌else◌}
+use Rattle.std.specs.Prelude.{◌≡◌, ℕ, ◌==◌, ℤ, pos, negsuc, List, [], ◌∷◌, ◌++◌, length, Bool, true, false, ◌&&◌, map, bytes_eq, codes, nat_lt, int_le, Option, None, Some, option_and_then, if◌then◌else◌}
 use Rattle.std.specs.Option.{option_map}
 use Rattle.std.specs.List.{list_any, slice_split}
 use Rattle.std.specs.Fmt.{decimal}
@@ -16,7 +16,7 @@ use Rattle.tsds_cli.specs.Script.{Event, Moment, Request}
 use Rattle.time_text.specs.Instant.{instant_of}
 use Rattle.tsds_cli.specs.declared.machine.Reply.{Reply}
 use Rattle.tsds_cli.specs.declared.machine.Machine.{Machine}
-use Rattle.tsds_cli.specs.Play.{Play}
+use Rattle.tsds_cli.specs.Play.{Act, Play}
 use Rattle.tsds_cli.specs.declared.documents.Document.{Document}
 use Rattle.tsds_cli.specs.declared.machine.Asked.{Asked}
 use Rattle.tsds_cli.specs.declared.machine.Asked.TheVariants.{Count, Bulk, Other}
@@ -197,10 +197,16 @@ abbrev pub stepped_of : Machine → Event → Machine
 stepped_of machine (Moment text) = record { now = moved machine.now (not_before machine.now (moment_in text)); documents = machine.documents }
 stepped_of machine (Request line body) = record { now = machine.now; documents = after machine.documents line body }
 
-unfoldable pub script_play : Play Machine
-script_play machine event = record {
+unfoldable pub act_of : Machine → Event → Act Machine
+act_of machine event = record {
   reply = option_map reply_line (reply_of machine event);
   stepped = stepped_of machine event;
   after = rest_of event (stepped_of machine event);
-  wrote = false;
 }
+
+-- without memory for a step it stays as it was
+abbrev pub stays : Machine → Event → Machine → Type 0
+stays machine event state = state ≡ machine
+
+abbrev pub script_play : Play Machine
+script_play = record { act = act_of; left = stays }

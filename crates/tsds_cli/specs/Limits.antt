@@ -1,6 +1,6 @@
 -- The lengths that a script may have.
 use Rattle.std.specs.Prelude.{ℕ, ◌+◌, List, [], ◌∷◌, ◌++◌, length, Bool, false, ◌||◌, nat_lt, if◌then◌else◌}
-use Rattle.std.specs.Io.BufRead.{strip_last}
+use Rattle.std.specs.Io.BufRead.{strip_last, ends_with_byte}
 use Rattle.edge_face.specs.Limits.{line_limit, input_limit, body_limit}
 use Rattle.edge_face.specs.Lines.{pieces_of, line_of}
 use Rattle.tsds_cli.specs.Script.{Event}
@@ -35,3 +35,15 @@ is_too_long bytes = long_from between 0 (pieces_of bytes)
 
 abbrev pub fine_of : List ℕ → List Event
 fine_of bytes = fine_from between 0 (pieces_of bytes)
+
+-- the same of bytes that may go on: of what waits for its newline only the length of the line is looked at
+abbrev pub is_over_so_far : Place → ℕ → List ℕ → Bool
+is_over_so_far place before piece = if ends_with_byte 10 piece then is_over place before piece else is_long_piece piece
+
+abbrev pub passed_from : Place → ℕ → List (List ℕ) → Bool
+passed_from place before [] = false
+passed_from place before (piece ∷ pieces) = is_over_so_far place before piece || passed_from (next_place place (line_of piece)) (before + length piece) pieces
+
+-- bytes that may go on have passed a length
+abbrev pub has_passed : List ℕ → Bool
+has_passed bytes = passed_from between 0 (pieces_of bytes)

@@ -1,5 +1,5 @@
 //! Requests and their replies.
-ghost use Rattle.std.specs.Prelude.{◌≡◌, false, ◌∷◌, ◌++◌, [], List, Bool, Some, None, Option, IfOk, OnOk, OnErr, map, length, take, bytes_eq, codes, pos, ℕ, ◌==◌};
+ghost use Rattle.std.specs.Prelude.{◌≡◌, ◌∷◌, ◌++◌, [], List, Bool, Some, None, Option, IfOk, OnOk, OnErr, map, length, take, bytes_eq, codes, pos, ℕ, ◌==◌};
 ghost use Rattle.std.specs.Option.{option_map};
 ghost use Rattle.std.specs.List.{list_any, slice_split};
 ghost use Rattle.time_text.specs.Instant.{instant_of as instant};
@@ -352,14 +352,13 @@ fn move_on(alloc: Global, now: &mut i64, text: &[u8]) -> Result<Option<Reply>, N
     }
 }
 
-/// Makes the step of an event. Without memory nothing is changed.
-#[tactic(auto, unfolding(crate::specs::Documents::script_play))]
+/// Makes the step of an event. Without memory the machine stays as it was.
+#[tactic(auto, unfolding(crate::specs::Documents::act_of))]
 pub fn act(alloc: Global, machine: &mut Machine, heard: &Heard) -> Result<Option<Reply>, NoMemory>
-    ensures reply { IfOk result (λ r. option_map reply_line r ≡ (script_play machine.old (event_in heard.now)).reply) }
-    ensures stepped { OnOk result (machine.new ≡ (script_play machine.old (event_in heard.now)).stepped) }
-    ensures after { OnOk result ((script_play machine.old (event_in heard.now)).after ≡ rest_of (event_in heard.now) machine.new) }
-    ensures wrote { (script_play machine.old (event_in heard.now)).wrote ≡ false }
-    ensures refused { OnErr result (machine.new ≡ machine.old) }
+    ensures reply { IfOk result (λ r. option_map reply_line r ≡ (script_play.act machine.old (event_in heard.now)).reply) }
+    ensures stepped { OnOk result (machine.new ≡ (script_play.act machine.old (event_in heard.now)).stepped) }
+    ensures after { OnOk result ((script_play.act machine.old (event_in heard.now)).after ≡ rest_of (event_in heard.now) machine.new) }
+    ensures refused { OnErr result (script_play.left machine.old (event_in heard.now) machine.new) }
 {
     match heard.opening {
         Opening::Moment => move_on(alloc, &mut machine.now, heard.line.as_slice()),

@@ -6,7 +6,7 @@ ghost use Rattle.edge_face.specs.Contents.{appended, Rose};
 ghost use Rattle.tsds_cli.specs.Script.{events_of};
 ghost use Rattle.tsds_cli.specs.Limits.{is_too_long};
 ghost use Rattle.tsds_cli.specs.Play.{PutAll, IsBehind, text_of};
-ghost use Rattle.tsds_cli.specs.Ends.{Ends, EndsBy, Broke, IsPut};
+ghost use Rattle.tsds_cli.specs.Ends.{Ends, EndsBy, Unseen, Broke, IsPut};
 ghost use Rattle.tsds_cli.specs.Ahead.{event_in};
 ghost use Rattle.tsds_cli.specs.Documents.{script_play, empty_machine, reply_line};
 ghost use Rattle.tsds_cli.specs.Words.{is_run, status_of};
@@ -108,8 +108,8 @@ fn do_event<K: Sink>(
     heard: &Heard,
     text: &mut Vec<u8>,
 ) -> Result<(), RunError>
-    ensures after { OnOk result (machine.new ≡ (script_play machine.old (event_in heard.now)).after) }
-    ensures put { OnOk result (K.given sink.new ≡ appended (K.given sink.old) (text_of (script_play machine.old (event_in heard.now)).reply)) }
+    ensures after { OnOk result (machine.new ≡ (script_play.act machine.old (event_in heard.now)).after) }
+    ensures put { OnOk result (K.given sink.new ≡ appended (K.given sink.old) (text_of (script_play.act machine.old (event_in heard.now)).reply)) }
     ensures broke { IfErr result (λ e. Broke script_play machine.old machine.new (event_in heard.now) e (K.given sink.old) (K.given sink.new)) }
     ensures write { result ≡ Err RunError.Write → Rose (K.faults sink.old) (K.faults sink.new) }
     ensures faults { K.faults sink.old ≤ K.faults sink.new }
@@ -160,7 +160,7 @@ fn run_empty<S: Source, K: Sink>(
     ensures done { OnOk result (IfSome (S.left source.old) (λ script. PutAll script_play empty_machine (K.given sink.old) (K.given sink.new) (events_of script))) }
     ensures short { OnOk result (IfSome (S.left source.old) (λ script. is_too_long script ≡ false)) }
     ensures drained { OnOk result (IfSome (S.left source.new) (λ rest. rest ≡ [])) }
-    ensures refused { IfErr result (λ e. Ends script_play empty_machine e (S.left source.old) (S.left source.new) (K.given sink.old) (K.given sink.new)) }
+    ensures refused { IfErr result (λ e. Ends script_play empty_machine Unseen e (S.left source.old) (S.left source.new) (K.given sink.old) (K.given sink.new)) }
     ensures read { result ≡ Err RunError.Read → Rose (S.faults source.old) (S.faults source.new) }
     ensures write { result ≡ Err RunError.Write → Rose (K.faults sink.old) (K.faults sink.new) }
     ensures faults { S.faults source.old ≤ S.faults source.new }
@@ -193,12 +193,12 @@ pub fn top<S: Source, K: Sink>(alloc: Global, words: &[String], source: &mut S, 
     ensures drained { result ≡ 0 → IfSome (S.left source.new) (λ rest. rest ≡ []) }
 
     // Under any other status of a run, what was written is told by the events that were done.
-    ensures memory { result ≡ 3 → Ends script_play empty_machine RunError.NoMemory (S.left source.old) (S.left source.new) (K.given sink.old) (K.given sink.new) }
+    ensures memory { result ≡ 3 → Ends script_play empty_machine Unseen RunError.NoMemory (S.left source.old) (S.left source.new) (K.given sink.old) (K.given sink.new) }
     ensures read { result ≡ 4 → Rose (S.faults source.old) (S.faults source.new)
-        × Ends script_play empty_machine RunError.Read (S.left source.old) (S.left source.new) (K.given sink.old) (K.given sink.new) }
+        × Ends script_play empty_machine Unseen RunError.Read (S.left source.old) (S.left source.new) (K.given sink.old) (K.given sink.new) }
     ensures write { result ≡ 7 → Rose (K.faults sink.old) (K.faults sink.new)
-        × Ends script_play empty_machine RunError.Write (S.left source.old) (S.left source.new) (K.given sink.old) (K.given sink.new) }
-    ensures long { result ≡ 8 → Ends script_play empty_machine RunError.TooLong (S.left source.old) (S.left source.new) (K.given sink.old) (K.given sink.new) }
+        × Ends script_play empty_machine Unseen RunError.Write (S.left source.old) (S.left source.new) (K.given sink.old) (K.given sink.new) }
+    ensures long { result ≡ 8 → Ends script_play empty_machine Unseen RunError.TooLong (S.left source.old) (S.left source.new) (K.given sink.old) (K.given sink.new) }
     ensures short { result ≡ 0 → IfSome (S.left source.old) (λ script. is_too_long script ≡ false) }
 
     // With the words of a run, a told source that holds its lengths and devices whose counts stay, the run is done unless memory is wanting.
