@@ -3,7 +3,7 @@ use Rattle.std.proofs.Common.{◌≡◌, ◌≢◌, ◌∙◌, ℕ, suc, ◌<◌
 use Rattle.std.specs.Prelude.{MatchOption}
 use Rattle.std.specs.Option.{option_map}
 use Rattle.std.proofs.lemmas.Bool.{ne_eqb}
-use Rattle.rest_request.specs.Path.{cut, before}
+use Rattle.rest_request.specs.Target.{cut, before}
 use Rattle.rest_request.specs.Seen.{seen_cut}
 
 -- no byte of the text is this one

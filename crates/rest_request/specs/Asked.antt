@@ -6,7 +6,7 @@ use Rattle.json_walk.specs.Shapes.{is_object}
 use Rattle.index_names.specs.Names.{is_stream_name, is_target_name, is_index_name}
 use Rattle.bulk_json.specs.Sound.{IsPath}
 use Rattle.rest_request.specs.Message.{Message, put_template, put_stream, get_stream, delete_stream, bulk, rollover, block, downsample, modify, delete_index, put_lifecycle, run_lifecycle, tasks, search_rows, count_rows, get_doc, flush}
-use Rattle.rest_request.specs.Path.{is_id}
+use Rattle.rest_request.specs.Target.{is_id}
 
 abbrev pub IsStream : List ℕ → Type 0
 IsStream name = IsTrue (is_stream_name name)

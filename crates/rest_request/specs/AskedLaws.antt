@@ -1,5 +1,5 @@
 -- Each request that is read keeps what `IsAsked` says.
-use Rattle.std.proofs.Common.{◌≡◌, ◌≤◌, ℕ, List, [], length, Bool, true, false, ◌&&◌, ◌||◌, cond, nat_eq, bytes_eq, Option, None, Some, option_map, option_and_then, Result, Ok, Err, refl, subst}
+use Rattle.std.proofs.Common.{◌≡◌, ◌≤◌, ℕ, List, [], length, Bool, true, false, ◌&&◌, ◌||◌, cond, nat_eq, bytes_eq, Option, None, Some, option_map, option_and_then, Result, Ok, Err, refl, sym, ◌∙◌, subst}
 use Rattle.std.specs.Prelude.{codes, IsTrue}
 use Rattle.edge_face.specs.Limits.{body_limit}
 use Rattle.serde_json.specs.Data.{Data}
@@ -9,9 +9,13 @@ use Rattle.index_names.specs.Names.{is_stream_name, is_target_name, is_index_nam
 use Rattle.rest_request.specs.Asked.{IsStream, IsIndex, IsBody, IsBodyIfAny, IsAsked}
 use Rattle.rest_request.specs.Body.{tree_if_object, object_of, optional_of, is_nothing}
 use Rattle.rest_request.specs.Form.{only, form_of}
-use Rattle.rest_request.specs.Message.{Message, bare_of, full_of, optional_of_form, message_of, on_body, on_form, on_place, on_target, request_of}
+use Rattle.rest_request.specs.Message.{Message}
+use Rattle.rest_request.specs.Steps.{bare_of, full_of, optional_of_form, message_of, on_form, on_place, on_target, request_by}
+use Rattle.rest_request.specs.Table.{request_of, on_message}
+use Rattle.rest_request.specs.TableLaws.{by_table}
+use Rattle.rest_request.specs.Target.{cut, split_target, is_id}
 use Rattle.rest_request.specs.Path as path
-use Rattle.rest_request.specs.Path.{Place, cut, split_target, is_id, at, place_of}
+use Rattle.rest_request.specs.Path.{Place, place_of}
 use Rattle.rest_request.specs.Query.{are_known}
 use Rattle.rest_request.specs.declared.path.Shape.{Shape}
 use Rattle.rest_request.specs.declared.path.Shape.TheVariants as shape
@@ -208,7 +212,7 @@ abbrev OfResult : Result Message RequestError → Type 0
 OfResult (Ok r) = IsAsked r
 OfResult (Err e) = Unit {0}
 
-on_body_so : (o : Option Message) → Of IsAsked o → OfResult (on_body o)
+on_body_so : (o : Option Message) → Of IsAsked o → OfResult (on_message o)
 on_body_so None is = tt
 on_body_so (Some r) is = is
 
@@ -216,7 +220,7 @@ on_form_so : (query body : List ℕ) (names : List ℕ × List ℕ) (o : Option 
 on_form_so query body names None short is = tt
 on_form_so query body names (Some f) short is = go (are_known query)
   where
-    go : (v : Bool) → OfResult (cond v (on_body (message_of f names.0 names.1 body)) (Err BadParameter))
+    go : (v : Bool) → OfResult (cond v (on_message (message_of f names.0 names.1 body)) (Err BadParameter))
     go true = on_body_so (message_of f names.0 names.1 body) (message_so f names.0 names.1 body short is)
     go false = tt
 
@@ -224,8 +228,8 @@ on_place_so : (method query body : List ℕ) (o : Option Place) → length body 
 on_place_so method query body None short is = tt
 on_place_so method query body (Some place) short is = on_form_so query body place.1 (form_of place.0 method) short (form_so place.0 place.1.0 place.1.1 method is)
 
-request_so : (method target body : List ℕ) → length body ≤ body_limit → OfResult (request_of method target body)
-unfolding request_of
+request_so : (method target body : List ℕ) → length body ≤ body_limit → OfResult (request_by method target body)
+unfolding request_by
 request_so method target body short = go (split_target (cut 63 target) target)
   where
     go : (parts : List ℕ × List ℕ) → OfResult (on_target method body parts)
@@ -233,4 +237,4 @@ request_so method target body short = go (split_target (cut 63 target) target)
 
 -- each request that is read of a body within its length
 pub asked_so : (method target body : List ℕ) (r : Message) → request_of method target body ≡ Ok r → length body ≤ body_limit → IsAsked r
-asked_so method target body r is short = subst OfResult is (request_so method target body short)
+asked_so method target body r is short = subst OfResult (sym (by_table method target body) ∙ is) (request_so method target body short)

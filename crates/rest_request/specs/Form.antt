@@ -1,4 +1,5 @@
--- Forms of requests by shape and method.
+-- How the code goes through the table of requests: then the form, by shape and method. For private clauses; `TableLaws` says
+-- that it comes to the same.
 use Rattle.std.specs.Prelude.{ℕ, ◌||◌, List, codes, bytes_eq, if◌then◌else◌, Option, None, Some}
 use Rattle.rest_request.specs.declared.path.Shape.{Shape}
 use Rattle.rest_request.specs.declared.path.Shape.TheVariants as shape

@@ -6,3 +6,7 @@ pub mod Message
 pub mod Path
 pub mod Query
 pub mod Seen
+pub mod Steps
+pub mod Table
+pub mod TableLaws
+pub mod Target

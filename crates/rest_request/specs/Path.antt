@@ -1,31 +1,10 @@
--- Targets and the shapes of their paths.
-use Rattle.std.specs.Prelude.{ℕ, ◌==◌, Bool, not, ◌||◌, ◌&&◌, nat_le, nat_eq, List, [], ◌∷◌, length, codes, bytes_eq, if◌then◌else◌, Option, None, Some}
-use Rattle.std.specs.Option.{option_map}
-use Rattle.std.specs.List.{list_all}
-use Rattle.std.specs.Char.{is_ascii_alphanumeric}
+-- How the code goes through the table of requests: first the shape of a path, by its segments from left to right. For private
+-- clauses; `TableLaws` says that it comes to the same.
+use Rattle.std.specs.Prelude.{ℕ, ◌&&◌, nat_eq, List, [], length, codes, bytes_eq, if◌then◌else◌, Option, None, Some}
 use Rattle.index_names.specs.Names.{is_stream_name, is_target_name, is_index_name}
+use Rattle.rest_request.specs.Target.{cut, is_id}
 use Rattle.rest_request.specs.declared.path.Shape.{Shape}
 use Rattle.rest_request.specs.declared.path.Shape.TheVariants.{Template, Stream, Modify, Lifecycle, Bulk, StreamBulk, Rollover, Block, Downsample, Index, RunLifecycle, Tasks, Search, Count, Document, Flush}
-
-abbrev pub before : ℕ → List ℕ × List ℕ → List ℕ × List ℕ
-before b parts = (b ∷ parts.0, parts.1)
-
--- what stands before and after the first such byte, where there is one
-abbrev pub cut : ℕ → List ℕ → Option (List ℕ × List ℕ)
-cut byte [] = None
-cut byte (b ∷ bytes) = if b == byte then Some ([], bytes) else option_map (before b) (cut byte bytes)
-
--- a target is a path, or a path, `?` and a query
-abbrev pub split_target : Option (List ℕ × List ℕ) → List ℕ → List ℕ × List ℕ
-split_target None target = (target, [])
-split_target (Some parts) target = parts
-
-abbrev pub is_id_byte : ℕ → Bool
-is_id_byte b = is_ascii_alphanumeric b || b == 45 || b == 95
-
--- the id of a document: 1 to 6,000 letters, digits, `-` and `_`
-unfoldable pub is_id : List ℕ → Bool
-is_id segment = not (nat_eq (length segment) 0) && (nat_le (length segment) 6000 && list_all is_id_byte segment)
 
 -- a shape, and the names in the path from left to right; empty where the shape has fewer
 abbrev pub Place : Type 0

@@ -3,6 +3,7 @@ ghost use Rattle.std.specs.Prelude.{◌≡◌};
 ghost use Rattle.std.specs.Option.{option_map};
 ghost use Rattle.std.specs.List.{list_all};
 ghost use Rattle.rest_request.specs.Path as spec;
+ghost use Rattle.rest_request.specs.Target as target;
 ghost use Rattle.rest_request.specs.Seen.{seen_place, seen_cut};
 
 use index_names::{is_index_name, is_stream_name, is_target_name};
@@ -51,27 +52,27 @@ fn found<'a>(shape: Shape, first: &'a str, second: &'a str) -> Option<Place<'a>>
 
 /// A text before and after its first slash.
 fn cut_at_slash(text: &str) -> Option<(&str, &str)>
-    ensures { option_map seen_cut result ≡ spec.cut 47 text.now }
+    ensures { option_map seen_cut result ≡ target.cut 47 text.now }
 {
     text.split_once('/')
 }
 
 fn is_id_byte(byte: u8) -> bool
-    ensures { result ≡ spec.is_id_byte byte }
+    ensures { result ≡ target.is_id_byte byte }
 {
     byte.is_ascii_alphanumeric() || byte == b'-' || byte == b'_'
 }
 
 /// Whether a segment is 1 to 6,000 letters, digits, `-` and `_`.
-#[tactic(auto, unfolding(crate::specs::Path::is_id))]
+#[tactic(auto, unfolding(crate::specs::Target::is_id))]
 fn is_id(segment: &[u8]) -> bool
-    ensures { result ≡ spec.is_id segment.now }
+    ensures { result ≡ target.is_id segment.now }
 {
     !segment.is_empty() && segment.len() <= ID_LIMIT && are_id_bytes(segment)
 }
 
 fn are_id_bytes(segment: &[u8]) -> bool
-    ensures { result ≡ list_all spec.is_id_byte segment.now }
+    ensures { result ≡ list_all target.is_id_byte segment.now }
 {
     segment.iter().all(|b| is_id_byte(*b))
 }
@@ -209,7 +210,7 @@ fn three_segments<'a>(a: &'a str, b: &'a str, c: &'a str) -> Option<Place<'a>>
 }
 
 fn more_segments<'a>(a: &'a str, others: &'a str) -> Option<Place<'a>>
-    ensures { option_map seen_place result ≡ spec.more_segments a.now (spec.cut 47 others.now) others.now }
+    ensures { option_map seen_place result ≡ spec.more_segments a.now (target.cut 47 others.now) others.now }
 {
     match cut_at_slash(others) {
         None => two_segments(a, others),
@@ -218,7 +219,7 @@ fn more_segments<'a>(a: &'a str, others: &'a str) -> Option<Place<'a>>
 }
 
 fn segments(all: &str) -> Option<Place<'_>>
-    ensures { option_map seen_place result ≡ spec.segments (spec.cut 47 all.now) all.now }
+    ensures { option_map seen_place result ≡ spec.segments (target.cut 47 all.now) all.now }
 {
     match cut_at_slash(all) {
         None => one_segment(all),

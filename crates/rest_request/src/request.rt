@@ -2,11 +2,13 @@
 ghost use Rattle.std.specs.Prelude.{◌≡◌, ◌≢◌, ◌≤◌, length, IfOk, IfErr, Ok, Err};
 ghost use Rattle.std.specs.Option.{option_map};
 ghost use Rattle.serde_json.specs.View.{view};
-ghost use Rattle.rest_request.specs.Path.{cut, split_target as split_target_at};
+ghost use Rattle.rest_request.specs.Target.{cut, split_target as split_target_at};
 ghost use Rattle.rest_request.specs.Seen.{seen_cut};
 ghost use Rattle.edge_face.specs.Limits.{body_limit};
 ghost use Rattle.rest_request.specs.Asked.{IsAsked};
-ghost use Rattle.rest_request.specs.Message.{seen, bare_of, full_of, optional_of_form, message_of, request_of};
+ghost use Rattle.rest_request.specs.Message.{seen};
+ghost use Rattle.rest_request.specs.Steps.{bare_of, full_of, optional_of_form, message_of, request_by};
+ghost use Rattle.rest_request.specs.Table.{request_of};
 
 use crate::body::{is_nothing, object};
 use crate::form::{Bare, Form, Full, Optional, form_of};
@@ -232,15 +234,15 @@ fn request_for(
 }
 
 // What a whole message is.
-#[tactic(auto, unfolding(crate::specs::Message::request_of))]
+#[tactic(auto, unfolding(crate::specs::Steps::request_by))]
 fn request_in(
     alloc: Global,
     method: &str,
     target: &str,
     body: Vec<u8>,
 ) -> Result<Request, RequestError>
-    ensures request { IfOk result (λ request. request_of method.now target.now body.items ≡ Ok (seen request)) }
-    ensures refused { IfErr result (λ e. e ≢ RequestError.NoMemory → request_of method.now target.now body.items ≡ Err e) }
+    ensures request { IfOk result (λ request. request_by method.now target.now body.items ≡ Ok (seen request)) }
+    ensures refused { IfErr result (λ e. e ≢ RequestError.NoMemory → request_by method.now target.now body.items ≡ Err e) }
 {
     let (path, query) = split_target(target);
     let Some(place) = place_of(path) else {
