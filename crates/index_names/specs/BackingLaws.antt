@@ -1,16 +1,16 @@
 -- A backing index's name tells its stream, its day and its generation.
-use Rattle.std.proofs.Common.{◌≡◌, ℕ, ◌+◌, ◌/◌, ◌%◌, ◌<◌, ◌≤◌, List, [], ◌∷◌, ◌++◌, length, Some, refl, sym, ap, ap₂, ◌∙◌, arith, ℤ, pos, negsuc, unsigned_abs, length-append}
+use Rattle.std.proofs.Common.{◌≡◌, ℕ, ◌+◌, ◌/◌, ◌%◌, ◌≤◌, List, [], ◌∷◌, ◌++◌, length, Some, refl, sym, ap, ap₂, ◌∙◌, arith, ℤ, pos, negsuc, unsigned_abs, length-append}
 use Rattle.std.specs.Prelude.{codes}
 use Rattle.std.proofs.lemmas.Int.{ints}
 use Rattle.std.proofs.lemmas.List.{append_cancel_left}
-use Rattle.time_text.specs.Day.{day_number, year_of, month_of, day_of_month}
+use Rattle.time_text.specs.Day.{year_of, month_of, day_of_month}
 use Rattle.time_text.specs.Instant.{IsInstant}
 use Rattle.time_text.specs.Printed.{day_text, two_digits, four_digits}
-use Rattle.time_text.specs.DayLaws.{civil_of_day, IsCivilOf}
+use Rattle.time_text.specs.DayLaws.{civil_of_day}
 use Rattle.index_names.specs.Backing.{six_digits, behind_stream, backing_name, IsBackingOf}
 
 -- two joined lists with rests of one length have the same fronts and the same rests
-same_parts : (xs ys us vs : List ℕ) → length us ≡ length vs → xs ++ us ≡ ys ++ vs → (xs ≡ ys) × (us ≡ vs)
+pub same_parts : (xs ys us vs : List ℕ) → length us ≡ length vs → xs ++ us ≡ ys ++ vs → (xs ≡ ys) × (us ≡ vs)
 same_parts [] [] us vs long same = (refl, same)
 same_parts [] (y ∷ ys) us vs long same = absurd (omega (arith, ap length same, length-append ys vs))
 same_parts (x ∷ xs) [] us vs long same = absurd (omega (arith, ap length same, length-append xs us))
@@ -78,7 +78,7 @@ six_told m n same =
     let f : 48 + m % 100 % 10 ≡ 48 + n % 100 % 10 = cc in
     omega (arith, a, b, c, d, e, f)
 
-behind_long : (t : ℤ) (n : ℕ) → length (behind_stream t n) ≡ 18
+pub behind_long : (t : ℤ) (n : ℕ) → length (behind_stream t n) ≡ 18
 unfolding day_text
 behind_long t n = refl
 

@@ -2,3 +2,4 @@ pub mod Backing
 pub mod BackingLaws
 pub mod Names
 pub mod Patterns
+pub mod Reading

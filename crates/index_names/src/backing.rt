@@ -25,7 +25,7 @@ fn digit(number: u32) -> u8
     b'0' + number as u8
 }
 
-fn six_digits(number: u32) -> [u8; 6]
+pub(crate) fn six_digits(number: u32) -> [u8; 6]
     requires { number ≤ greatest_generation }
     ensures text { result ≡ spec.six_digits number }
     ensures ascii { IsAscii result }
