@@ -1,1 +1,4 @@
 pub mod Escapes
+pub mod Induction
+pub mod Reading
+pub mod Trees

@@ -4,10 +4,12 @@
 mod build;
 mod copying;
 mod escape;
+mod laws;
 mod out;
 mod sheet;
 mod write;
 
 pub use build::{Members, error_reply};
+pub use laws::{printed_reads_back, texts_tell_replies};
 pub use out::{Member, Out};
 pub use write::print;
