@@ -1,4 +1,4 @@
-pub mod Escapes
 pub mod Induction
+pub mod Numbers
 pub mod Reading
 pub mod Trees

@@ -4,7 +4,8 @@ use Rattle.std.specs.Fmt.{signed_decimal}
 use Rattle.std.specs.Str.{is_utf8}
 use Rattle.std.proofs.lemmas.Str.{IsUtf8-from_is_utf8}
 use Rattle.json.specs.Json as json
-use Rattle.json.specs.Print.{quoted}
+use Rattle.json.specs.Print.{print, quoted}
+use Rattle.json.specs.Token as token
 use Rattle.json.specs.Token.{Token}
 use Rattle.json.specs.Tree as jt
 use Rattle.serde_json.specs.Data as tree_data
@@ -15,12 +16,13 @@ use Rattle.json_walk.specs.Tree.{tree_of}
 use Rattle.json_walk.specs.TreeLaws.{tree_at_utf8}
 use Rattle.reply_json.specs.Reading.{is_small, all_true, readable_step, readable_member, is_readable, greatest, depth_step, depth_member, depth, number_in, items_in, members_onto, read_step, read_member, read_as, PrintedReadsBack, OneReply}
 use Rattle.reply_json.specs.Reply.{joined, text_step, member_step, text}
+use Rattle.reply_json.specs.Tokens.{joined_tokens, tokens_step, member_tokens_step, tokens_of}
 use Rattle.reply_json.specs.Trees as tree
 use Rattle.reply_json.specs.declared.out.Member.{Member, Member-F, fold-Member, roll-out-Member, fold_out-Member}
 use Rattle.reply_json.specs.declared.out.Out.{Out, Out-F, fold-Out, fold-roll-Out, Null, Flag, Num as Number, Word, List as list, Object}
 use Rattle.reply_json.specs.declared.out.Out.TheViews.{rolls-Null, rolls-Flag, rolls-Num, rolls-Word, rolls-List, rolls-Object}
 use Rattle.reply_json.proofs.Induction.{name_of, value_of, AllOf, AllValues, by_kinds}
-use Rattle.reply_json.proofs.Trees.{compact, items_text, members_text, IsFine, AreFine, MembersFine, small_natural, small_negative, compact_utf8, value_read, one_value}
+use Rattle.reply_json.proofs.Trees.{compact, items_text, members_text, IsFine, AreFine, MembersFine, small_natural, small_negative, compact_utf8, print_compact, value_read, one_value}
 
 -- ---- folds at each kind
 
@@ -102,6 +104,7 @@ abbrev mutual
 -- what is known of the value of a reply
 record IsReadAs (o : Out) : Type 0 where
   pub same_text : text o ≡ compact (json_of o)
+  pub same_tokens : jt.json_tokens (json_of o) ≡ tokens_of o
   pub same_depth : jt.depth (json_of o) ≡ depth o
   pub fine : is_readable o ≡ true → IsFine (json_of o)
   pub same_tree : is_readable o ≡ true → of_json (json_of o) ≡ Some (read_as o)
@@ -128,6 +131,11 @@ first_items : (os : List Out) → AllOf IsReadAs os → joined (map text os) ++ 
 first_items [] all = refl
 first_items (o ∷ os) all = first_and_later (text o) _ _ (93 ∷ []) (later_items os all.1) ∙ ap (λ s. s ++ items_text true (items_of (map json_of os))) all.0.same_text
 
+items_tokens : (os : List Out) → AllOf IsReadAs os → jt.items_tokens (items_of (map json_of os)) ≡ joined_tokens (map tokens_of os) ++ token.end_array ∷ []
+items_tokens [] all = refl
+items_tokens (o ∷ os) all =
+    ap₂ (λ ts us. ts ++ us) all.0.same_tokens (items_tokens os all.1) ∙ sym (append_assoc (tokens_of o) (joined_tokens (map tokens_of os)) (token.end_array ∷ []))
+
 items_depth : (os : List Out) → AllOf IsReadAs os → jt.items_depth (items_of (map json_of os)) ≡ greatest (map depth os)
 items_depth [] all = refl
 items_depth (o ∷ os) all = ap₂ max all.0.same_depth (items_depth os all.1)
@@ -153,6 +161,9 @@ items_back (o ∷ os) all is =
 abbrev pair_of : Member → List ℕ × json.Json
 pair_of m = (name_of m, json_of (value_of m))
 
+abbrev token_list : Member → List Token
+token_list m = token.key (name_of m) ∷ tokens_of (value_of m)
+
 abbrev text_of : Member → List ℕ
 text_of m = quoted (name_of m) ++ 58 ∷ text (value_of m)
 
@@ -175,6 +186,12 @@ later_members (m ∷ ms) all = ap (λ s. 44 ∷ s) (first_and_later (text_of m) 
 first_members : (ms : List Member) → AllValues IsReadAs ms → joined (map text_of ms) ++ 125 ∷ [] ≡ members_text false (members_of (map pair_of ms))
 first_members [] all = refl
 first_members (m ∷ ms) all = first_and_later (text_of m) _ _ (125 ∷ []) (later_members ms all.1) ∙ one_member m (members_text true (members_of (map pair_of ms))) all.0
+
+members_tokens : (ms : List Member) → AllValues IsReadAs ms → jt.members_tokens (members_of (map pair_of ms)) ≡ joined_tokens (map token_list ms) ++ token.end_object ∷ []
+members_tokens [] all = refl
+members_tokens (m ∷ ms) all =
+    ap₂ (λ ts us. token.key (name_of m) ∷ (ts ++ us)) all.0.same_tokens (members_tokens ms all.1)
+    ∙ sym (append_assoc (token_list m) (joined_tokens (map token_list ms)) (token.end_object ∷ []))
 
 members_depth : (ms : List Member) → AllValues IsReadAs ms → jt.members_depth (members_of (map pair_of ms)) ≡ greatest (map depth_of ms)
 members_depth [] all = refl
@@ -224,6 +241,7 @@ at_null =
     let j : json_of Null ≡ json.null = fold_null J JM json_step json_member in
     record {
       same_text = fold_null _ _ text_step member_step ∙ sym (ap compact j);
+      same_tokens = ap jt.json_tokens j ∙ sym (fold_null _ _ tokens_step member_tokens_step);
       same_depth = ap jt.depth j ∙ sym (fold_null _ _ depth_step depth_member);
       fine = λ is. subst IsFine (sym j) tt;
       same_tree = λ is. ap of_json j ∙ sym (ap (λ d. Some d) (fold_null _ _ read_step read_member));
@@ -239,6 +257,7 @@ at_flag b =
     let j : json_of (Flag b) ≡ json.boolean b = fold_flag J JM json_step json_member b in
     record {
       same_text = fold_flag _ _ text_step member_step b ∙ flag_text b ∙ sym (ap compact j);
+      same_tokens = ap jt.json_tokens j ∙ sym (fold_flag _ _ tokens_step member_tokens_step b);
       same_depth = ap jt.depth j ∙ sym (fold_flag _ _ depth_step depth_member b);
       fine = λ is. subst IsFine (sym j) tt;
       same_tree = λ is. ap of_json j ∙ sym (ap (λ d. Some d) (fold_flag _ _ read_step read_member b));
@@ -251,6 +270,7 @@ at_number z =
     let small : is_readable (Number z) ≡ is_small z = fold_number _ _ readable_step readable_member z in
     record {
       same_text = fold_number _ _ text_step member_step z ∙ sym (ap compact j);
+      same_tokens = ap jt.json_tokens j ∙ sym (fold_number _ _ tokens_step member_tokens_step z);
       same_depth = ap jt.depth j ∙ sym (fold_number _ _ depth_step depth_member z);
       fine = λ is. subst IsFine (sym j) (z, sym small ∙ is, refl);
       same_tree = λ is. ap of_json j ∙ ap (option_map tree_data.number) (number_tree z (sym small ∙ is)) ∙ sym (ap (λ d. Some d) (fold_number _ _ read_step read_member z));
@@ -263,6 +283,7 @@ at_word w =
     let utf8 : is_readable (Word w) ≡ is_utf8 w = fold_word _ _ readable_step readable_member w in
     record {
       same_text = fold_word _ _ text_step member_step w ∙ sym (ap compact j);
+      same_tokens = ap jt.json_tokens j ∙ sym (fold_word _ _ tokens_step member_tokens_step w);
       same_depth = ap jt.depth j ∙ sym (fold_word _ _ depth_step depth_member w);
       fine = λ is. subst IsFine (sym j) (IsUtf8-from_is_utf8 w (sym utf8 ∙ is));
       same_tree = λ is. ap of_json j ∙ sym (ap (λ d. Some d) (fold_word _ _ read_step read_member w));
@@ -275,6 +296,7 @@ at_list os all =
     let readable : is_readable (list os) ≡ all_true (map is_readable os) = fold_list _ _ readable_step readable_member os in
     record {
       same_text = fold_list _ _ text_step member_step os ∙ ap (λ s. 91 ∷ s) (first_items os all) ∙ sym (ap compact j);
+      same_tokens = ap jt.json_tokens j ∙ ap (λ ts. token.begin_array ∷ ts) (items_tokens os all) ∙ sym (fold_list _ _ tokens_step member_tokens_step os);
       same_depth = ap jt.depth j ∙ ap suc (items_depth os all) ∙ sym (fold_list _ _ depth_step depth_member os);
       fine = λ is. subst IsFine (sym j) (items_fine os all (sym readable ∙ is));
       same_tree = λ is. ap of_json j ∙ ap (option_map tree_data.array) (items_tree os all (sym readable ∙ is)) ∙ sym (ap (λ d. Some d) (fold_list _ _ read_step read_member os));
@@ -287,6 +309,7 @@ at_object ms all =
     let readable : is_readable (Object ms) ≡ all_true (map readable_of ms) = fold_object _ _ readable_step readable_member ms in
     record {
       same_text = fold_object _ _ text_step member_step ms ∙ ap (λ s. 123 ∷ s) (first_members ms all) ∙ sym (ap compact j);
+      same_tokens = ap jt.json_tokens j ∙ ap (λ ts. token.begin_object ∷ ts) (members_tokens ms all) ∙ sym (fold_object _ _ tokens_step member_tokens_step ms);
       same_depth = ap jt.depth j ∙ ap suc (members_depth ms all) ∙ sym (fold_object _ _ depth_step depth_member ms);
       fine = λ is. subst IsFine (sym j) (members_fine ms all (sym readable ∙ is));
       same_tree = λ is. ap of_json j ∙ ap (option_map tree_data.object) (members_tree ms tree_data.no_members all (sym readable ∙ is)) ∙ sym (ap (λ d. Some d) (fold_object _ _ read_step read_member ms));
@@ -295,6 +318,10 @@ at_object ms all =
 
 is_read_as : (o : Out) → IsReadAs o
 is_read_as = by_kinds IsReadAs (record { at_null = at_null; at_flag = at_flag; at_number = at_number; at_word = at_word; at_list = at_list; at_object = at_object })
+
+-- the text of a reply is the print of its tokens
+pub text_printed : (o : Out) → text o ≡ print (tokens_of o)
+text_printed o = let known = is_read_as o in known.same_text ∙ sym (print_compact (json_of o)) ∙ ap print known.same_tokens
 
 -- ---- the laws
 

@@ -1,4 +1,4 @@
 pub mod Reading
 pub mod Reply
-pub mod Sheet
+pub mod Tokens
 pub mod Trees

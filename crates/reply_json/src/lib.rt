@@ -3,10 +3,8 @@
 
 mod build;
 mod copying;
-mod escape;
 mod laws;
 mod out;
-mod sheet;
 mod write;
 
 pub use build::{Members, error_reply};

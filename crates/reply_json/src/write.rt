@@ -1,11 +1,14 @@
+//! Printing.
 ghost use Rattle.std.specs.Prelude.{◌≡◌, ◌++◌, OnOk, OnErr, map, ◌∷◌, []};
-ghost use Rattle.reply_json.specs.Reply.{text, member_text, joined};
+ghost use Rattle.std.specs.Fmt.{signed_decimal};
+ghost use Rattle.json.specs.Token.{begin_array, end_array, begin_object, end_object, number};
+ghost use Rattle.reply_json.specs.Reply.{text};
+ghost use Rattle.reply_json.specs.Tokens.{tokens_of, member_tokens, joined_tokens};
 
-use crate::escape::put_quoted;
 use crate::out::{Member, Out};
-use crate::sheet::Sheet;
 use edge_face::NoMemory;
 use itoa::Buffer;
+use json::Writer;
 use std::mem;
 
 /// Appends the JSON text of the tree, without spaces. After a refusal `into` is as it was.
@@ -13,80 +16,81 @@ pub fn print(out: &Out, into: &mut Vec<u8>) -> Result<(), NoMemory>
     ensures ok { OnOk result (into.new.items ≡ into.old.items ++ text out.now) }
     ensures err { OnErr result (into.new.items ≡ into.old.items) }
 {
+    let start = into.len();
     let empty = Vec::new(*into.allocator());
-    let mut sheet = Sheet::new(mem::replace(into, empty));
-    match put_tree(out, &mut sheet) {
+    let mut writer = Writer::new(mem::replace(into, empty));
+    match put_tree(out, &mut writer) {
         Ok(()) => {
-            *into = sheet.keep();
+            *into = writer.into_inner();
             Ok(())
         }
         Err(e) => {
-            *into = sheet.undo();
+            let mut bytes = writer.into_inner();
+            bytes.truncate(start);
+            *into = bytes;
             Err(e)
         }
     }
 }
 
 #[cycle(put)]
-fn put_tree(out: &Out, sheet: &mut Sheet) -> Result<(), NoMemory>
-    ensures ok { OnOk result (sheet.new.added ≡ sheet.old.added ++ text out.now) }
-    ensures before { sheet.new.before ≡ sheet.old.before }
+fn put_tree(out: &Out, writer: &mut Writer) -> Result<(), NoMemory>
+    ensures ok { OnOk result (writer.new.tokens ≡ writer.old.tokens ++ tokens_of out.now) }
+    ensures before { writer.new.before ≡ writer.old.before }
 {
     match out {
-        Out::Null => sheet.put(b"null")?,
-        Out::Flag(true) => sheet.put(b"true")?,
-        Out::Flag(false) => sheet.put(b"false")?,
-        Out::Num(n) => sheet.put(Buffer::new().format(*n).as_bytes())?,
-        Out::Word(word) => put_quoted(word.as_bytes(), sheet)?,
-        Out::List(elements) => put_elements(elements.as_slice(), sheet)?,
-        Out::Object(members) => put_members(members.as_slice(), sheet)?,
+        Out::Null => writer.null()?,
+        Out::Flag(flag) => writer.boolean(*flag)?,
+        Out::Num(n) => put_number(*n, writer)?,
+        Out::Word(word) => writer.string(word.as_str())?,
+        Out::List(elements) => put_elements(elements.as_slice(), writer)?,
+        Out::Object(members) => put_members(members.as_slice(), writer)?,
     }
     Ok(())
 }
 
-#[cycle(put)]
-fn put_elements(elements: &[Out], sheet: &mut Sheet) -> Result<(), NoMemory>
-    ensures ok { OnOk result (sheet.new.added
-        ≡ sheet.old.added ++ 91 ∷ (joined (map text elements.now) ++ 93 ∷ [])) }
-    ensures before { sheet.new.before ≡ sheet.old.before }
+fn put_number(n: i128, writer: &mut Writer) -> Result<(), NoMemory>
+    ensures ok { OnOk result (writer.new.tokens ≡ writer.old.tokens ++ number (signed_decimal n) ∷ []) }
+    ensures before { writer.new.before ≡ writer.old.before }
 {
-    sheet.put(b"[")?;
-    if let Some((first, later)) = elements.split_first() {
-        put_tree(first, sheet)?;
-        for element in later {
-            sheet.put(b",")?;
-            put_tree(element, sheet)?;
-        }
-    }
-    sheet.put(b"]")?;
+    writer.number(Buffer::new().format(n))?;
     Ok(())
 }
 
 #[cycle(put)]
-fn put_members(members: &[Member], sheet: &mut Sheet) -> Result<(), NoMemory>
-    ensures ok { OnOk result (sheet.new.added
-        ≡ sheet.old.added ++ 123 ∷ (joined (map member_text members.now) ++ 125 ∷ [])) }
-    ensures before { sheet.new.before ≡ sheet.old.before }
+fn put_elements(elements: &[Out], writer: &mut Writer) -> Result<(), NoMemory>
+    ensures ok { OnOk result (writer.new.tokens
+        ≡ writer.old.tokens ++ begin_array ∷ (joined_tokens (map tokens_of elements.now) ++ end_array ∷ [])) }
+    ensures before { writer.new.before ≡ writer.old.before }
 {
-    sheet.put(b"{")?;
-    if let Some((first, later)) = members.split_first() {
-        put_member(first, sheet)?;
-        for member in later {
-            sheet.put(b",")?;
-            put_member(member, sheet)?;
-        }
+    writer.begin_array()?;
+    for element in elements {
+        put_tree(element, writer)?;
     }
-    sheet.put(b"}")?;
+    writer.end_array()?;
     Ok(())
 }
 
 #[cycle(put)]
-fn put_member(member: &Member, sheet: &mut Sheet) -> Result<(), NoMemory>
-    ensures ok { OnOk result (sheet.new.added ≡ sheet.old.added ++ member_text member.now) }
-    ensures before { sheet.new.before ≡ sheet.old.before }
+fn put_members(members: &[Member], writer: &mut Writer) -> Result<(), NoMemory>
+    ensures ok { OnOk result (writer.new.tokens
+        ≡ writer.old.tokens ++ begin_object ∷ (joined_tokens (map member_tokens members.now) ++ end_object ∷ [])) }
+    ensures before { writer.new.before ≡ writer.old.before }
 {
-    put_quoted(member.name.as_bytes(), sheet)?;
-    sheet.put(b":")?;
-    put_tree(&member.value, sheet)?;
+    writer.begin_object()?;
+    for member in members {
+        put_member(member, writer)?;
+    }
+    writer.end_object()?;
+    Ok(())
+}
+
+#[cycle(put)]
+fn put_member(member: &Member, writer: &mut Writer) -> Result<(), NoMemory>
+    ensures ok { OnOk result (writer.new.tokens ≡ writer.old.tokens ++ member_tokens member.now) }
+    ensures before { writer.new.before ≡ writer.old.before }
+{
+    writer.key(member.name.as_str())?;
+    put_tree(&member.value, writer)?;
     Ok(())
 }

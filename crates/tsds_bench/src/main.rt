@@ -3,6 +3,7 @@
 #![tactic(auto)]
 
 mod blocks;
+mod bulks;
 mod columns;
 mod documents;
 mod fold_rows;
@@ -38,6 +39,7 @@ fn sum_of(alloc: Global, case: &str, size: u64) -> Result<u64> {
         "fold" => fold_rows::run(alloc, rest, size),
         "template" => templates::run(alloc, rest.parse()?, size),
         "documents" => documents::run(alloc, rest, size),
+        "bulk" => bulks::run(alloc, rest, size),
         "segment" => segments::run(alloc, rest, size),
         _ => packed(alloc, case, size),
     }
