@@ -1,8 +1,10 @@
 //! Action lines: what is asked of the next line, and of which stream.
-ghost use Rattle.std.specs.Prelude.{◌≡◌, IfOk, bytes_eq};
+ghost use Rattle.std.specs.Prelude.{◌≡◌, ◌++◌, IfOk, IfSome, IsTrue, bytes_eq};
 ghost use Rattle.std.specs.Option.{option_map};
+ghost use Rattle.std.specs.Str.{IsUtf8};
 ghost use Rattle.serde_json.specs.View.{view};
-ghost use Rattle.bulk_json.specs.Usual.{usual_line, usual_asked};
+ghost use Rattle.index_names.specs.Names as names;
+ghost use Rattle.bulk_json.specs.Usual.{usual_line, usual_asked, named_line, named_asked, named_front, named_end};
 ghost use Rattle.bulk_json.specs.Actions.{action_name, action_in as action_in_tree, takes_source, stream_in as stream_in_tree, asked_in as asked_in_tree, asked_of};
 
 use edge_face::{NoMemory, Text};
@@ -122,7 +124,37 @@ fn usual_action(alloc: Global, path: Option<&str>) -> Result<Option<Asked>, NoMe
     }
 }
 
-/// The action that a line is, or none. The usual line is told by its bytes.
+// What stands before and after the name in the line that names a stream.
+const NAMED_FRONT: &[u8] = b"{\"create\":{\"_index\":\"";
+
+const NAMED_END: &[u8] = b"\"}}";
+
+// What stands between the front and the end of the usual line that names a stream.
+fn between(line: &[u8]) -> Option<&[u8]>
+    ensures { IfSome result (λ name. line.now ≡ named_line name.now) }
+{
+    let behind = line.strip_prefix(NAMED_FRONT)?;
+    let name = behind.strip_suffix(NAMED_END)?;
+    Some(name)
+}
+
+// The stream that the usual line names; none also where another reading has to tell.
+fn named_stream(line: &[u8]) -> Option<&str>
+    ensures line { IfSome result (λ name. line.now ≡ named_line name.now) }
+    ensures name { IfSome result (λ name. IsTrue (names.is_stream_name name.now)) }
+    ensures utf8 { IfSome result (λ name. IsUtf8 name.now) }
+{
+    let name = between(line)?;
+    if !is_stream_name(name) {
+        return None;
+    }
+    match str::from_utf8(name) {
+        Ok(name) => Some(name),
+        Err(_) => None,
+    }
+}
+
+/// The action that a line is, or none. The usual lines are told by their bytes.
 pub fn read_action(
     alloc: Global,
     path: Option<&str>,
@@ -133,6 +165,12 @@ pub fn read_action(
     if is_usual(line) {
         let asked = usual_action(alloc, path)?;
         return Ok(asked);
+    }
+    if let Some(stream) = named_stream(line) {
+        return Ok(Some(Asked {
+            action: Action::Create,
+            stream: Text::new(alloc, stream)?,
+        }));
     }
     match read_line(alloc, line) {
         Ok(tree) => asked_in(alloc, path, &tree),
