@@ -1,7 +1,8 @@
 #!/bin/sh
-# Replies to bulk requests of a thousand items that were created: their trees built, and printed.
+# Bulk requests of a thousand items: the lines of bodies whose stream is the path's, and that name it; and the trees of replies to
+# items that were created, built alone, and printed too.
 # Usage: bench/bulks.sh PROGRAM [SIZE]; PROGRAM is what `rt run` in crates/tsds_bench built. Prints nanoseconds an item: the
-# least of five runs in processor time, for building alone, and for building and printing.
+# least of five runs in processor time.
 set -e
 program=$1
 size=${2:-2000000}
@@ -10,7 +11,7 @@ least() {
         bash -c 'TIMEFORMAT=%U; time "$@" >/dev/null' - "$program" "$1" "$size" 2>&1
     done | sort -n | head -1
 }
-for case in built printed; do
+for case in path named built printed; do
     taken=$(least "bulk-$case")
     echo "$case $(echo "$taken $size" | awk '{ printf "%.0f", $1 * 1000000000 / $2 }') ns"
 done

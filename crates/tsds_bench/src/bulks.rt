@@ -1,6 +1,8 @@
-//! Replies to bulk requests of a thousand items that were created, SIZE items in all: `bulk-built` builds their trees,
-//! `bulk-printed` prints them too.
+//! Bulk requests of a thousand items, SIZE items in all: `bulk-path` reads the lines of bodies whose stream is the path's,
+//! `bulk-named` of those that name it; `bulk-built` builds the trees of replies to items that were created, and `bulk-printed`
+//! prints them too.
 use anyhow::{Result, bail};
+use bulk_json::{BulkLines, NextItem};
 use edge_face::NoMemory;
 use reply_json::{Members, Out, print};
 use std::alloc::Global;
@@ -8,7 +10,9 @@ use std::alloc::Global;
 const INDEX: &str = ".ds-metrics-host-cpu-2024.01.01-000001";
 const ID: &str = "dGVzdC1ob3N0LTA3LXpvbmUtMwAAAYzBq4AA";
 
-/// How many items a reply has.
+const SOURCE: &str = "{\"@timestamp\":1704067200000,\"host\":\"h07\",\"cpu\":88}\n";
+
+/// How many items a request has.
 const TURN: usize = 1_000;
 
 /// `{"create":{"_index":index,"_id":id,"result":"created","status":201}}`.
@@ -45,16 +49,54 @@ fn taken(alloc: Global, is_printed: bool, buffer: &mut Vec<u8>) -> Result<u64> {
     Ok(buffer.len() as u64)
 }
 
-pub fn run(alloc: Global, case: &str, size: u64) -> Result<u64> {
-    let is_printed = match case {
-        "built" => false,
-        "printed" => true,
-        _ => bail!("no such case"),
-    };
+/// A body of so many items, each an action line and a source.
+fn body(alloc: Global, action: &str, number: usize) -> Result<Vec<u8>> {
+    let mut body = Vec::new(alloc);
+    for _ in 0..number {
+        body.extend_from_slice(action.as_bytes())?;
+        body.extend_from_slice(SOURCE.as_bytes())?;
+    }
+    Ok(body)
+}
+
+/// The bytes of all sources of a body.
+fn sources(alloc: Global, path: Option<&str>, body: &[u8]) -> Result<u64> {
+    let mut sum = 0u64;
+    let mut lines = BulkLines::new(path, body);
+    while let Some(NextItem { item, ahead }) = lines.next(alloc)? {
+        if let Some(source) = item.source {
+            sum = sum.wrapping_add(source.len() as u64);
+        }
+        lines = ahead;
+    }
+    Ok(sum)
+}
+
+/// The sources of bodies that are read over and over.
+fn read(alloc: Global, action: &str, path: Option<&str>, size: u64) -> Result<u64> {
+    let body = body(alloc, action, TURN)?;
+    let mut sum = 0u64;
+    for _ in 0..size / TURN as u64 {
+        sum = sum.wrapping_add(sources(alloc, path, body.as_slice())?);
+    }
+    Ok(sum)
+}
+
+fn replied(alloc: Global, is_printed: bool, size: u64) -> Result<u64> {
     let mut buffer = Vec::new(alloc);
     let mut sum = 0u64;
     for _ in 0..size / TURN as u64 {
         sum = sum.wrapping_add(taken(alloc, is_printed, &mut buffer)?);
     }
     Ok(sum)
+}
+
+pub fn run(alloc: Global, case: &str, size: u64) -> Result<u64> {
+    match case {
+        "path" => read(alloc, "{\"create\":{}}\n", Some("metrics"), size),
+        "named" => read(alloc, "{\"create\":{\"_index\":\"metrics\"}}\n", None, size),
+        "built" => replied(alloc, false, size),
+        "printed" => replied(alloc, true, size),
+        _ => bail!("no such case"),
+    }
 }
