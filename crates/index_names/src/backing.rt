@@ -15,8 +15,10 @@ pub const GREATEST_GENERATION: u32 = 999_999;
 /// What the names of downsampled indices begin with; no other may.
 pub const RESERVED_FRONT: &str = "downsample-";
 
-// How many bytes a backing index's name has besides those of its stream.
-const FRAME: usize = 22;
+// How many bytes a backing index's name has before those of its stream, and behind them.
+pub(crate) const BEFORE_STREAM: usize = 4;
+
+pub(crate) const BEHIND_STREAM: usize = 18;
 
 fn digit(number: u32) -> u8
     requires { number < 10 }
@@ -63,7 +65,7 @@ pub fn backing_name(
 {
     let day = print_day(now);
     let digits = six_digits(generation);
-    let mut name = String::with_capacity(alloc, stream.len() + FRAME)?;
+    let mut name = String::with_capacity(alloc, stream.len() + BEFORE_STREAM + BEHIND_STREAM)?;
     name.push_str(".ds-")?;
     name.push_str(stream)?;
     name.push_str("-")?;

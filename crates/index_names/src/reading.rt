@@ -5,7 +5,7 @@ ghost use Rattle.time_text.specs.Printed.{instant_text};
 ghost use Rattle.index_names.specs.Names as names;
 ghost use Rattle.index_names.specs.Reading.{IsBackingName, IsToldBy, IsDayOf, IsNoDay, IsGenerationOf, IsNoGeneration, IsCutOf, IsFramed, midnight};
 
-use crate::backing::six_digits;
+use crate::backing::{BEFORE_STREAM, BEHIND_STREAM, six_digits};
 use crate::names::is_stream_name;
 use time_text::{print_day, read_instant};
 
@@ -18,11 +18,6 @@ pub struct BackingName<'a> {
     /// 1 to 999,999.
     pub generation: u32,
 }
-
-// How many bytes a backing index's name has behind its stream, and before.
-const BEHIND: usize = 18;
-
-const BEFORE: usize = 4;
 
 const DAY: u64 = 86_400_000;
 
@@ -40,11 +35,11 @@ struct Cut<'a> {
 fn cut_name(name: &[u8]) -> Option<Cut<'_>>
     ensures { MatchOption result (length name.now < 22) (λ c. IsCutOf c name.now) }
 {
-    if name.len() < BEFORE + BEHIND {
+    if name.len() < BEFORE_STREAM + BEHIND_STREAM {
         return None;
     }
-    let (front, behind) = name.split_at(name.len() - BEHIND);
-    let (mark, stream) = front.split_at(BEFORE);
+    let (front, behind) = name.split_at(name.len() - BEHIND_STREAM);
+    let (mark, stream) = front.split_at(BEFORE_STREAM);
     let (first_hyphen, behind) = behind.split_at(1);
     let (day, behind) = behind.split_at(10);
     let (second_hyphen, generation) = behind.split_at(1);

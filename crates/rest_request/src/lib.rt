@@ -7,4 +7,5 @@ mod path;
 mod query;
 mod request;
 
+pub use path::ID_LIMIT;
 pub use request::{Request, RequestError, read_body_request, read_request};

@@ -9,7 +9,7 @@ ghost use Rattle.rest_request.specs.Seen.{seen_place, seen_cut};
 use index_names::{is_index_name, is_stream_name, is_target_name};
 
 /// The most bytes that a document's id has.
-const ID_LIMIT: usize = 6_000;
+pub const ID_LIMIT: usize = 6_000;
 
 /// What the segments of a path are.
 #[derive(Clone, Copy, Debug, PartialEq, Eq)]
