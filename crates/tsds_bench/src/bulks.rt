@@ -8,6 +8,7 @@ use reply_json::{Members, Out, print};
 use std::alloc::Global;
 
 const INDEX: &str = ".ds-metrics-host-cpu-2024.01.01-000001";
+
 const ID: &str = "dGVzdC1ob3N0LTA3LXpvbmUtMwAAAYzBq4AA";
 
 const SOURCE: &str = "{\"@timestamp\":1704067200000,\"host\":\"h07\",\"cpu\":88}\n";
