@@ -14,7 +14,8 @@ use Rattle.downsample_fold.specs.Laws.{series_of}
 use Rattle.stream_catalog.specs.declared.answers.CatalogError.{CatalogError}
 use Rattle.stream_catalog.specs.declared.answers.CatalogError.TheVariants.{NoSuchName, NameTaken, Reserved, NotBlocked, Interval as BadInterval, Limit}
 use Rattle.stream_catalog.specs.declared.answers.What.TheVariants.{Indices}
-use Rattle.stream_catalog.specs.Names.{is_taken, is_reserved, most_indices}
+use Rattle.index_names.specs.Backing.{is_reserved}
+use Rattle.stream_catalog.specs.Names.{is_taken, most_indices}
 use Rattle.stream_catalog.specs.declared.facts.HeldIndex.{HeldIndex}
 use Rattle.stream_catalog.specs.declared.facts.TaskFacts.{TaskFacts}
 use Rattle.stream_catalog.specs.Plain.{PlainIndex, PlainCatalog, PlainFacts, facts_of}
@@ -30,7 +31,7 @@ use Rattle.stream_catalog.proofs.ChangeLemmas as change
 use Rattle.stream_catalog.proofs.ChangeLemmas.{index_named-see, facts_named-facts, facts_of-see, with_indices}
 use Rattle.stream_catalog.proofs.FoldedLemmas.{MayFold, may_fold, same_mark, task_may, series_seen, folded_index-seen, kept_of_base, none_first, none_when, none_map}
 use Rattle.stream_catalog.proofs.SeenLemmas.{index_again, index_sound}
-use Rattle.stream_catalog.proofs.WantedRows.{insert_last, any-in_row_order, length-in_row_order}
+use Rattle.row_cells.specs.PlaceLaws.{insert_last, has_place-in_row_order, length-in_row_order}
 
 -- ---- what a sound catalogue says of an index
 
@@ -57,7 +58,7 @@ indices_again (i ∷ is) sound = cons_eq (index_again i sound.0) (indices_again 
 
 indices_sound : (f : PlainFacts) (is : List PlainIndex) → Each (λ i. IsHeld f i.facts) is → Each IsIndexSound is → Each IsIndexSound (map see_index is)
 indices_sound f [] held sound = tt
-indices_sound f (i ∷ is) held sound = (index_sound i held.0.mapping.schema.mapped.routing sound.0, indices_sound f is held.1 sound.1)
+indices_sound f (i ∷ is) held sound = (index_sound i held.0.mapping.schema.mapped sound.0, indices_sound f is held.1 sound.1)
 
 under_way : (done : ℕ) (o : Option PlainIndex) → ((i : PlainIndex) → o ≡ Some i → IsIndexSound i) → IsUnderWay done o → IsUnderWay done (option_map see_index o)
 under_way done None sound is = is
@@ -96,7 +97,7 @@ changes_go_through = record {
 
 pub row_tests_stay : RowTestsStay
 row_tests_stay = record {
-  place = λ key time rows. any-in_row_order (λ r. bytes_eq r.key key && int_eq r.time time) rows;
+  place = has_place-in_row_order;
   number = length-in_row_order;
 }
 

@@ -4,6 +4,7 @@ use Rattle.std.specs.Option.{option_map}
 use Rattle.std.specs.List.{slice_get}
 use Rattle.std.proofs.Common.{refl, ap, ◌∙◌, sym}
 use Rattle.time_text.specs.declared.intervals.Interval.{Interval}
+use Rattle.index_names.specs.Backing.{downsample_name}
 use Rattle.lifecycle_swap.specs.declared.planning.Step.{Step}
 use Rattle.lifecycle_swap.specs.declared.planning.Step.TheVariants.{Extend, Delete, Start}
 use Rattle.lifecycle_swap.specs.declared.lifecycles.Lifecycle.{Lifecycle}
@@ -14,7 +15,7 @@ use Rattle.stream_catalog.specs.declared.facts.HeldIndex.{HeldIndex}
 use Rattle.stream_catalog.specs.Plain.{PlainIndex, PlainStream, PlainCatalog, PlainFacts, facts_of}
 use Rattle.stream_catalog.specs.Ways.{see_index, see_catalog}
 use Rattle.stream_catalog.specs.Lists.{with_found, updated, inserted, without, stream_name, index_name, facts_name, template_named, stream_named, facts_named, index_named}
-use Rattle.stream_catalog.specs.Names.{is_taken, fold_name, template_for}
+use Rattle.stream_catalog.specs.Names.{is_taken, template_for}
 use Rattle.stream_catalog.specs.Streams as spec
 use Rattle.stream_catalog.specs.Indices.{blocked_index, blocked_in, index_deleted, without_member, task_index}
 use Rattle.stream_catalog.specs.Moves.{moved_by, moved_all}
@@ -146,8 +147,8 @@ started-seen r i by =
 
 started_if_free-seen : (r : Running) (i : PlainIndex) (by : Interval) → see_running (started_if_free r i by) ≡ started_if_free (see_running r) (see_index i) by
 started_if_free-seen r i by =
-    by_test (is_taken (fold_name by i.facts.origin) (facts_of r.catalog))
-    ∙ ap (λ f. if is_taken (fold_name by i.facts.origin) f then see_running r else started (see_running r) (see_index i) by) (sym (facts_of-see r.catalog))
+    by_test (is_taken (downsample_name by i.facts.origin) (facts_of r.catalog))
+    ∙ ap (λ f. if is_taken (downsample_name by i.facts.origin) f then see_running r else started (see_running r) (see_index i) by) (sym (facts_of-see r.catalog))
   where
     by_test : (b : Bool) → see_running (if b then r else started r i by) ≡ (if b then see_running r else started (see_running r) (see_index i) by)
     by_test true = refl

@@ -24,7 +24,7 @@ use Rattle.stream_catalog.specs.Ways.{shown_by, plain_way, seen_way, see_index, 
 use Rattle.stream_catalog.specs.Lists.{when, first_of}
 use Rattle.stream_catalog.specs.Indices.{folded_facts, folded_index}
 use Rattle.stream_catalog.specs.Sound.{KeepsMark, IsTaskOf, IsIndexSound}
-use Rattle.stream_catalog.proofs.WantedFolds.{down-form, series_of-down}
+use Rattle.downsample_fold.specs.SettleLaws.{folds_any_form, folds_keep_series}
 use Rattle.stream_catalog.proofs.SeenLemmas.{some_ms, cells_of}
 
 -- ---- intervals
@@ -69,13 +69,13 @@ down_shown (Some before) schema rises rows by cells may =
     let marked : Schema = record schema { rises = rises } in
     let once = down marked rows (ms_of before) in
     ap (λ b. down marked (down (record schema { rises = b }) rows (ms_of before)) (ms_of by)) (sym may.0)
-    ∙ (sym (down-form marked true once (ms_of by))
+    ∙ (sym (folds_any_form marked true once (ms_of by))
     ∙ folds_compose marked rows (ms_of before) (ms_of by) cells (some_ms before) (some_ms by) may.1)
 
 -- what is shown has the series of what there is
 pub series_shown : (interval : Option Interval) (schema : Schema) (rows : List Row) → HaveCells schema rows → series_of (shown_by interval schema rows) ≡ series_of rows
 series_shown None schema rows cells = ap keys_of (in_row_order-same _ (in_row_order-ascends rows))
-series_shown (Some by) schema rows cells = series_of-down schema rows (ms_of by) cells (some_ms by)
+series_shown (Some by) schema rows cells = folds_keep_series schema rows (ms_of by) cells (some_ms by)
 
 pub series_seen : (i : PlainIndex) → IsIndexSound i → series_of (see_index i).rows ≡ series_of i.rows
 series_seen i sound = series_shown i.facts.interval i.facts.mapping.schema i.rows (cells_of i sound)
@@ -86,7 +86,7 @@ pub folded_index-seen : (target : List ℕ) (rises : Bool) (by : Interval) (i : 
     see_index (folded_index plain_way target rises by i) ≡ folded_index seen_way target rises by (see_index i)
 folded_index-seen target rises by i sound may =
     ap (λ rows. folded_by rows)
-    (down-form (record i.facts.mapping.schema { rises = rises }) true i.rows (ms_of by)
+    (folds_any_form (record i.facts.mapping.schema { rises = rises }) true i.rows (ms_of by)
     ∙ sym (down_shown i.facts.interval i.facts.mapping.schema rises i.rows by (cells_of i sound) may))
   where
     folded_by : List Row → PlainIndex

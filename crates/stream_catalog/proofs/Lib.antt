@@ -1,7 +1,4 @@
 mod NamedLemmas
-mod WantedRows
-mod WantedFolds
-mod WantedKeys
 mod BucketLemmas
 mod SeenLemmas
 mod ChangeLemmas
@@ -17,3 +14,5 @@ mod AddedLemmas
 mod DownsampleLemmas
 mod UnitLemmas
 mod StreamLemmas
+mod KeptLemmas
+mod GoneLemmas

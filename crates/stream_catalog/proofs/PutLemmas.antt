@@ -17,12 +17,12 @@ use Rattle.stream_catalog.specs.Plain.{PlainIndex, PlainCatalog, facts_of}
 use Rattle.stream_catalog.specs.Lists.{updated, index_name, facts_named, index_named}
 use Rattle.stream_catalog.specs.Puts.{has_time, MayPut}
 use Rattle.stream_catalog.specs.Sound.{raw_form, IsWithin, AreRows, IsKind, IsTaskOf, IsIndexSound, IsUnderWay, AreFactsSound}
-use Rattle.stream_catalog.specs.Wanted.{IsRowOf}
+use Rattle.row_cells.specs.KeyedRows.{IsRowOf}
 use Rattle.stream_catalog.specs.Laws.{TakesRow, PutsKeepSound}
 use Rattle.stream_catalog.proofs.NamedLemmas.{each_updated, named_updated}
 use Rattle.stream_catalog.proofs.ChangeLemmas.{facts_named-facts}
 use Rattle.stream_catalog.proofs.CatalogLemmas.{held_of, sound_of}
-use Rattle.stream_catalog.proofs.WantedRows.{push_distinct}
+use Rattle.row_cells.specs.PlaceLaws.{push_distinct, free_apart}
 
 -- ---- the row
 
@@ -59,7 +59,7 @@ push_rows facts (Some by) rows row kind may are = absurd (both_ways facts.blocke
 push_sound : (i : PlainIndex) (row : Row) → IsIndexSound i → IsKind i.facts.interval i.facts.blocked i.facts.mapping.schema → MayPut i.facts i.rows row → IsIndexSound (record i { rows = i.rows ++ row ∷ [] })
 push_sound i row sound kind may =
     let more = push_rows i.facts i.facts.interval i.rows row kind may sound.rows in
-    record { rows = more.0; distinct = push_distinct i.rows row sound.distinct may.free; few = more.1 }
+    record { rows = more.0; distinct = push_distinct i.rows row sound.distinct (free_apart row i.rows may.free); few = more.1 }
 
 -- ---- facts stay
 

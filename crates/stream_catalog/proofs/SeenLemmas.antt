@@ -1,13 +1,12 @@
 -- What is seen of a sound index is sound, and seen again itself.
-use Rattle.std.specs.Prelude.{◌≡◌, ℕ, ℤ, ◌<◌, ◌≤◌, ◌⊎◌, List, length, Option, Some, None, true, false}
+use Rattle.std.specs.Prelude.{◌≡◌, ℕ, ℤ, Bool, ◌<◌, ◌≤◌, ◌⊎◌, List, length, Option, Some, None, true, false}
 use Rattle.std.proofs.Common.{refl, ap, ◌∙◌, sym, subst, inl, inr}
 use Rattle.std.proofs.Math.Nat.{mod_self}
 use Rattle.row_cells.specs.declared.schemas.Schema.{Schema}
 use Rattle.row_cells.specs.declared.rows.Row.{Row}
 use Rattle.row_cells.specs.Each.{Each, Each-weaker, Each-both}
-use Rattle.row_cells.specs.Fitting.{Fits, folded_form, dimensions_of}
-use Rattle.row_cells.specs.Dimensions.{key_bytes}
-use Rattle.row_cells.specs.Mapped.{AreDimensionsAt, any_present}
+use Rattle.row_cells.specs.Fitting.{Fits, folded_form}
+use Rattle.row_cells.specs.Mapped.{IsMapped}
 use Rattle.row_cells.specs.RowLists.{AreInRowOrder, in_row_order, AllFit, documents}
 use Rattle.time_text.specs.declared.intervals.Interval.{Interval}
 use Rattle.time_text.specs.Bucket.{bucket_start}
@@ -23,11 +22,11 @@ use Rattle.downsample_fold.specs.FoldLaws.{folds_compose, folds_in_order, folds_
 use Rattle.stream_catalog.specs.Plain.{PlainIndex}
 use Rattle.stream_catalog.specs.Ways.{shown_by, see_index}
 use Rattle.stream_catalog.specs.Sound.{raw_form, IsWithin, AreRaw, Meets, AreFolds, AreRows, IsIndexSound}
-use Rattle.stream_catalog.specs.Wanted.{IsRowOf}
+use Rattle.row_cells.specs.KeyedRows.{IsRowOf}
 use Rattle.stream_catalog.proofs.BucketLemmas.{meets_of, down_times}
-use Rattle.stream_catalog.proofs.WantedFolds.{down-form}
-use Rattle.stream_catalog.proofs.WantedKeys.{KeepsKey, down_keeps}
-use Rattle.stream_catalog.proofs.WantedRows.{in_order-distinct}
+use Rattle.downsample_fold.specs.KeepLaws.{folds_are_rows}
+use Rattle.downsample_fold.specs.SettleLaws.{folds_any_form}
+use Rattle.row_cells.specs.PlaceLaws.{in_order-distinct}
 
 pub some_ms : (by : Interval) → 0 < ms_of by
 some_ms by = by.in_range.0
@@ -51,37 +50,17 @@ either_of (Some by) schema start end rows are = elim are [ inl raw ↦ inl raw.e
 pub either_cells : (schema : Schema) (rows : List Row) → AreEither schema rows → HaveCells schema rows
 either_cells schema rows either = elim either [ inl raw ↦ have_cells (raw_form schema) rows raw | inr folded ↦ have_cells (folded_form schema) rows folded ]
 
-keys_of_form : (schema form : Schema) (rows : List Row) → form.fields ≡ schema.fields → form.routing ≡ schema.routing → Each (IsRowOf form) rows → HaveCells form rows → Each (KeepsKey schema) rows
-keys_of_form schema form rows fields routing each cells =
-    Each-both (IsRowOf form) (λ row. length row.cells ≡ length form.fields) (KeepsKey schema)
-    (λ row r beside. record {
-      beside = beside ∙ ap length fields;
-      keyed = record {
-        routed = ap (λ places. any_present places row.cells) (sym routing) ∙ r.keyed.routed;
-        short = subst (λ fs. length (key_bytes (dimensions_of fs row.cells)) ≤ 4096) fields r.keyed.short;
-      };
-      short = r.short;
-    }) rows each cells
+-- a schema in another form has its fields still
+mapped_form : (schema : Schema) (folded : Bool) → IsMapped schema → IsMapped (record schema { folded = folded })
+mapped_form schema folded mapped = record { ascending = mapped.ascending; paths = mapped.paths; routing = mapped.routing }
 
-either_keys : (schema : Schema) (rows : List Row) → AreEither schema rows → Each (KeepsKey schema) rows
-either_keys schema rows either = elim either [
-  | inl raw ↦ keys_of_form schema (raw_form schema) rows refl refl raw (have_cells (raw_form schema) rows raw)
-  | inr folded ↦ keys_of_form schema (folded_form schema) rows refl refl folded (have_cells (folded_form schema) rows folded)
-]
-
--- the fold of rows in either form fits
-pub down_fits : (schema : Schema) (rows : List Row) (n : ℕ) → 0 < n → AreEither schema rows → documents rows ≤ 16777216 → AllFit (folded_form schema) (down schema rows n)
-down_fits schema rows n some either few =
-    elim either [
-      | inl raw ↦ subst (AllFit (folded_form schema)) (down-form schema false rows n) (folds_fit (raw_form schema) rows n some (fits_of (raw_form schema) rows raw) few)
-      | inr folded ↦ subst (AllFit (folded_form schema)) (down-form schema true rows n) (folds_fit (folded_form schema) rows n some (fits_of (folded_form schema) rows folded) few)
-    ]
-
-pub down_rows : (schema : Schema) (rows : List Row) (n : ℕ) → AreDimensionsAt schema.fields schema.routing → 0 < n → AreEither schema rows → documents rows ≤ 16777216 → Each (IsRowOf (folded_form schema)) (down schema rows n)
+-- the fold of rows in either form
+pub down_rows : (schema : Schema) (rows : List Row) (n : ℕ) → IsMapped schema → 0 < n → AreEither schema rows → documents rows ≤ 16777216 → Each (IsRowOf (folded_form schema)) (down schema rows n)
 down_rows schema rows n mapped some either few =
-    Each-both (Fits (folded_form schema)) (KeepsKey schema) (IsRowOf (folded_form schema))
-    (λ row fits k. record { fits = fits; keyed = record { routed = k.keyed.routed; short = k.keyed.short }; short = k.short })
-    (down schema rows n) (down_fits schema rows n some either few) (down_keeps schema mapped rows n some (either_keys schema rows either))
+    elim either [
+      | inl raw ↦ subst (Each (IsRowOf (folded_form schema))) (folds_any_form schema false rows n) (folds_are_rows (raw_form schema) rows n (mapped_form schema false mapped) some raw few)
+      | inr folded ↦ subst (Each (IsRowOf (folded_form schema))) (folds_any_form schema true rows n) (folds_are_rows (folded_form schema) rows n (mapped_form schema true mapped) some folded few)
+    ]
 
 -- ---- where their buckets are
 
@@ -106,9 +85,9 @@ folds_meet schema start end by rows are =
 pub shown_again : (interval : Option Interval) (schema : Schema) (rows : List Row) → HaveCells schema rows → shown_by interval schema (shown_by interval schema rows) ≡ shown_by interval schema rows
 shown_again None schema rows cells = in_row_order-same (in_row_order rows) (in_row_order-ascends rows)
 shown_again (Some by) schema rows cells =
-    sym (down-form schema true (down schema rows (ms_of by)) (ms_of by)) ∙ folds_compose schema rows (ms_of by) (ms_of by) cells (some_ms by) (some_ms by) (mod_self (ms_of by))
+    sym (folds_any_form schema true (down schema rows (ms_of by)) (ms_of by)) ∙ folds_compose schema rows (ms_of by) (ms_of by) cells (some_ms by) (some_ms by) (mod_self (ms_of by))
 
-shown_rows : (interval : Option Interval) (schema : Schema) (start end : ℤ) (rows : List Row) → AreDimensionsAt schema.fields schema.routing → AreRows interval schema start end rows → documents rows ≤ 16777216 →
+shown_rows : (interval : Option Interval) (schema : Schema) (start end : ℤ) (rows : List Row) → IsMapped schema → AreRows interval schema start end rows → documents rows ≤ 16777216 →
     AreRows interval schema start end (shown_by interval schema rows)
 shown_rows None schema start end rows mapped are few = record {
   each = in_row_order-each (IsRowOf (raw_form schema)) rows are.each;
@@ -146,7 +125,7 @@ cells_of i sound =
 pub index_again : (i : PlainIndex) → IsIndexSound i → see_index (see_index i) ≡ see_index i
 index_again i sound = ap (λ rows. record i { rows = rows }) (shown_again i.facts.interval i.facts.mapping.schema i.rows (cells_of i sound))
 
-pub index_sound : (i : PlainIndex) → AreDimensionsAt i.facts.mapping.schema.fields i.facts.mapping.schema.routing → IsIndexSound i → IsIndexSound (see_index i)
+pub index_sound : (i : PlainIndex) → IsMapped i.facts.mapping.schema → IsIndexSound i → IsIndexSound (see_index i)
 index_sound i mapped sound = record {
   rows = shown_rows i.facts.interval i.facts.mapping.schema i.facts.start i.facts.end i.rows mapped sound.rows sound.few;
   distinct = shown_distinct i.facts.interval i.facts.mapping.schema i.rows (cells_of i sound) sound.distinct;

@@ -6,7 +6,7 @@ use Rattle.row_cells.specs.declared.rows.Row.{Row}
 use Rattle.row_cells.specs.declared.schemas.Schema.{Schema}
 use Rattle.row_cells.specs.Each.{Each}
 use Rattle.row_cells.specs.Fitting.{folded_form}
-use Rattle.row_cells.specs.Mapped.{AreDimensionsAt}
+use Rattle.row_cells.specs.Mapped.{IsMapped}
 use Rattle.row_cells.specs.RowLists.{AreInRowOrder, in_row_order, documents}
 use Rattle.time_text.specs.declared.intervals.Interval.{Interval}
 use Rattle.time_text.specs.Interval.{ms_of}
@@ -17,13 +17,13 @@ use Rattle.stream_catalog.specs.Ways.{shown_by, see_index, see_catalog}
 use Rattle.stream_catalog.specs.Lists.{index_named}
 use Rattle.stream_catalog.specs.Sound.{raw_form, AreRows, IsKind}
 use Rattle.stream_catalog.specs.Laws.{ShownRows}
-use Rattle.stream_catalog.specs.Wanted.{IsRowOf}
+use Rattle.row_cells.specs.KeyedRows.{IsRowOf}
 use Rattle.stream_catalog.proofs.NamedLemmas.{some_is}
 use Rattle.stream_catalog.proofs.ChangeLemmas.{index_named-see}
 use Rattle.stream_catalog.proofs.CatalogLemmas.{held_of, sound_of}
 use Rattle.stream_catalog.proofs.SeenLemmas.{some_ms, either_of, down_rows, shown_in_order, cells_of}
 
-shown_fit : (interval : Option Interval) (blocked : Bool) (schema : Schema) (start end : ℤ) (rows : List Row) → IsKind interval blocked schema → AreDimensionsAt schema.fields schema.routing → AreRows interval schema start end rows → documents rows ≤ 16777216 →
+shown_fit : (interval : Option Interval) (blocked : Bool) (schema : Schema) (start end : ℤ) (rows : List Row) → IsKind interval blocked schema → IsMapped schema → AreRows interval schema start end rows → documents rows ≤ 16777216 →
     Each (IsRowOf schema) (shown_by interval schema rows)
 shown_fit None blocked schema start end rows kind mapped are few =
     let same : raw_form schema ≡ schema = ap (λ b. record schema { folded = b }) (sym kind.0) in
@@ -44,7 +44,7 @@ shown_rows c n i seen found =
     let schema = i.facts.mapping.schema in
     let same : shown_by i.facts.interval schema i.rows ≡ i.rows = ap (λ (j : PlainIndex). j.rows) (seen_itself c n i seen.again found) in
     record {
-      each = subst (Each (IsRowOf schema)) same (shown_fit i.facts.interval i.facts.blocked schema i.facts.start i.facts.end i.rows held.kind held.mapping.schema.mapped.routing sound.rows sound.few);
+      each = subst (Each (IsRowOf schema)) same (shown_fit i.facts.interval i.facts.blocked schema i.facts.start i.facts.end i.rows held.kind held.mapping.schema.mapped sound.rows sound.few);
       order = subst AreInRowOrder same (shown_in_order i.facts.interval schema i.rows (cells_of i sound) sound.distinct);
       few = sound.few;
     }

@@ -22,7 +22,7 @@ use Rattle.time_text.specs.BucketLaws.{bucket_start-pos}
 use Rattle.stream_catalog.specs.Indices.{folded_index}
 use Rattle.stream_catalog.specs.Plain.{PlainIndex}
 use Rattle.stream_catalog.specs.Sound.{raw_form, AreRaw, Meets, AreRows, IsIndexSound}
-use Rattle.stream_catalog.specs.Wanted.{IsRowOf}
+use Rattle.row_cells.specs.KeyedRows.{IsRowOf}
 use Rattle.stream_catalog.specs.Ways.{plain_way}
 use Rattle.stream_catalog.proofs.FoldedLemmas.{MayFold}
 use Rattle.stream_catalog.proofs.SeenLemmas.{some_ms}

@@ -10,6 +10,7 @@ use Rattle.row_cells.specs.declared.schemas.Schema.{Schema}
 use Rattle.time_text.specs.declared.intervals.Interval.{Interval}
 use Rattle.time_text.specs.declared.units.Unit.TheVariants.{S}
 use Rattle.time_text.specs.Bucket.{bucket_start}
+use Rattle.index_names.specs.Backing.{downsample_name}
 use Rattle.downsample_fold.specs.Direct.{down}
 use Rattle.lifecycle_swap.specs.declared.lifecycles.Lifecycle.{Lifecycle}
 use Rattle.ts_mapping.specs.declared.templates.Mapping.{Mapping}
@@ -23,7 +24,6 @@ use Rattle.stream_catalog.specs.Plain.{PlainStream, PlainCatalog, facts_of}
 use Rattle.stream_catalog.specs.Ways.{plain_way, seen_way, see_catalog}
 use Rattle.stream_catalog.specs.Indices.{downsample_refusal, downsampled, delete_refusal, index_deleted}
 use Rattle.stream_catalog.specs.Moves.{moves_refusal, moved_all}
-use Rattle.stream_catalog.specs.Names.{fold_name}
 use Rattle.stream_catalog.specs.Puts.{put_into, picked_by}
 use Rattle.stream_catalog.specs.Rounds.{lifecycle_run}
 use Rattle.stream_catalog.specs.Streams.{stream_deleted}
@@ -175,6 +175,6 @@ pub run_too_soon : (lifecycle_run (two false keeping []) (pos 10999)).ran ≡ re
 unfolding lifecycle_run
 run_too_soon = refl
 
-pub run_task : map (λ (t : TaskFacts). t.target) (lifecycle_run (two false keeping []) (pos 15000)).catalog.tasks ≡ fold_name second (codes "a") ∷ []
+pub run_task : map (λ (t : TaskFacts). t.target) (lifecycle_run (two false keeping []) (pos 15000)).catalog.tasks ≡ downsample_name second (codes "a") ∷ []
 unfolding lifecycle_run
 run_task = refl

@@ -3,6 +3,7 @@ use Rattle.std.specs.Prelude.{ℕ, Bool, not, List, [], ◌∷◌, filter, map, 
 use Rattle.std.specs.Option.{option_map}
 use Rattle.time_text.specs.declared.intervals.Interval.{Interval}
 use Rattle.downsample_fold.specs.Intervals.{interval_fault}
+use Rattle.index_names.specs.Backing.{is_reserved}
 use Rattle.ts_mapping.specs.declared.templates.Mapping.{Mapping}
 use Rattle.stream_catalog.specs.declared.answers.CatalogError.{CatalogError}
 use Rattle.stream_catalog.specs.declared.answers.CatalogError.TheVariants.{NoSuchName, NameTaken, Reserved, IsWriteIndex, NotBlocked, Interval as BadInterval, Limit}
@@ -12,7 +13,7 @@ use Rattle.stream_catalog.specs.declared.facts.TaskFacts.{TaskFacts}
 use Rattle.stream_catalog.specs.Plain.{PlainIndex, PlainStream, PlainCatalog, PlainFacts}
 use Rattle.stream_catalog.specs.Ways.{Way}
 use Rattle.stream_catalog.specs.Lists.{when, on_found, with_found, first_of, updated, inserted, without, index_name, facts_named, index_named}
-use Rattle.stream_catalog.specs.Names.{most_indices, is_taken, is_reserved}
+use Rattle.stream_catalog.specs.Names.{most_indices, is_taken}
 use Rattle.stream_catalog.specs.Streams.{written_by}
 
 -- ---- an index takes no documents any more, also where it took none

@@ -3,7 +3,8 @@ use Rattle.std.specs.Prelude.{◌≡◌, ◌≤◌, ℕ, ℤ, List, length, None
 use Rattle.row_cells.specs.declared.rows.Row.{Row}
 use Rattle.row_cells.specs.declared.schemas.Schema.{Schema}
 use Rattle.row_cells.specs.Each.{Each}
-use Rattle.row_cells.specs.RowLists.{AreInRowOrder, documents, in_row_order}
+use Rattle.row_cells.specs.KeyedRows.{IsRowOf}
+use Rattle.row_cells.specs.RowLists.{AreInRowOrder, documents, has_place, in_row_order}
 use Rattle.time_text.specs.declared.intervals.Interval.{Interval}
 use Rattle.downsample_fold.specs.Laws.{series_of}
 use Rattle.lifecycle_swap.specs.Lifecycles.{IsLifecycle}
@@ -14,13 +15,12 @@ use Rattle.stream_catalog.specs.Plain.{PlainIndex, PlainCatalog, facts_of}
 use Rattle.stream_catalog.specs.Ways.{plain_way, seen_way, see_index, see_catalog, kept_rows}
 use Rattle.stream_catalog.specs.Lists.{index_named}
 use Rattle.stream_catalog.specs.Streams.{template_put, created, stream_deleted, life_set, rolled_over}
-use Rattle.stream_catalog.specs.Indices.{blocked_in, downsample_refusal, downsampled, index_deleted}
+use Rattle.stream_catalog.specs.Indices.{blocked_in, delete_refusal, downsample_refusal, downsampled, index_deleted}
 use Rattle.stream_catalog.specs.Moves.{moved_all}
-use Rattle.stream_catalog.specs.Puts.{has_place, MayPut, put_into}
+use Rattle.stream_catalog.specs.Puts.{MayPut, put_into}
 use Rattle.stream_catalog.specs.Rounds.{Running, lifecycle_run}
 use Rattle.stream_catalog.specs.Units.{unit_of}
 use Rattle.stream_catalog.specs.Sound.{IsIndexSound, IsSoundCatalog, IsSeenCatalog}
-use Rattle.stream_catalog.specs.Wanted.{IsRowOf}
 
 -- what is seen of a sound catalogue is sound, and seen again itself
 abbrev pub SeenAgain : Type 0
@@ -107,3 +107,9 @@ UnitsKeepSound = (c : PlainCatalog) → IsSoundCatalog c → IsSoundCatalog (uni
 
 abbrev pub LivesKeepSound : Type 0
 LivesKeepSound = (c : PlainCatalog) (name : List ℕ) (life : Lifecycle) → IsLifecycle life → IsSoundCatalog c → IsSoundCatalog (life_set c name life)
+
+abbrev pub StreamDeletionsKeepSound : Type 0
+StreamDeletionsKeepSound = (c : PlainCatalog) (name : List ℕ) → IsSoundCatalog c → IsSoundCatalog (stream_deleted c name)
+
+abbrev pub DeletionsKeepSound : Type 0
+DeletionsKeepSound = (c : PlainCatalog) (n : List ℕ) → IsSoundCatalog c → delete_refusal (facts_of c) n ≡ None → IsSoundCatalog (index_deleted c n)

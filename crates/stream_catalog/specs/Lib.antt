@@ -1,7 +1,6 @@
 pub mod Plain
 pub mod Ways
 pub mod Lists
-pub mod Wanted
 pub mod Names
 pub mod Roles
 pub mod Streams

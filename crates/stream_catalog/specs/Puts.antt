@@ -9,8 +9,9 @@ use Rattle.stream_catalog.specs.declared.facts.HeldIndex.{HeldIndex}
 use Rattle.stream_catalog.specs.Plain.{PlainStream, PlainCatalog, PlainFacts}
 use Rattle.stream_catalog.specs.Ways.{Way}
 use Rattle.stream_catalog.specs.Lists.{with_found, updated, index_name, facts_named}
-use Rattle.stream_catalog.specs.Names.{most_documents}
-use Rattle.stream_catalog.specs.Wanted.{IsRowOf}
+use Rattle.row_cells.specs.KeyedRows.{IsRowOf}
+use Rattle.row_cells.specs.Limits.{most_documents}
+use Rattle.row_cells.specs.RowLists.{has_place}
 
 -- a window has its start, and not its end
 abbrev pub has_time : HeldIndex → ℤ → Bool
@@ -27,10 +28,6 @@ picked_from (Some i) = if i.blocked then Err Blocked else Ok i.name
 -- the member that takes a document of a time
 abbrev pub picked_by : PlainFacts → PlainStream → ℤ → Result (List ℕ) PickError
 picked_by f s t = with_found (member_at f t s) (Err NoWindow) (λ m. picked_from (facts_named m f.indices))
-
--- some row is of this series and time
-abbrev pub has_place : List ℕ → ℤ → List Row → Bool
-has_place key time rows = list_any (λ r. bytes_eq r.key key && int_eq r.time time) rows
 
 abbrev pub is_full : List Row → Bool
 is_full rows = nat_le most_documents (length rows)

@@ -2,6 +2,7 @@
 use Rattle.std.specs.Prelude.{ℕ, ◌+◌, ℤ, List, [], ◌∷◌, ◌++◌, bytes_eq, if◌then◌else◌}
 use Rattle.std.specs.List.{list_any, slice_get}
 use Rattle.time_text.specs.declared.intervals.Interval.{Interval}
+use Rattle.index_names.specs.Backing.{downsample_name}
 use Rattle.lifecycle_swap.specs.Plan.{plan_of}
 use Rattle.lifecycle_swap.specs.declared.planning.IndexFacts.{IndexFacts}
 use Rattle.lifecycle_swap.specs.declared.planning.Step.{Step}
@@ -11,7 +12,7 @@ use Rattle.stream_catalog.specs.declared.facts.HeldIndex.{HeldIndex}
 use Rattle.stream_catalog.specs.declared.facts.TaskFacts.{TaskFacts}
 use Rattle.stream_catalog.specs.Plain.{PlainIndex, PlainStream, PlainCatalog, PlainFacts, facts_of}
 use Rattle.stream_catalog.specs.Lists.{with_found, updated, index_name, index_named, template_named, facts_named}
-use Rattle.stream_catalog.specs.Names.{is_taken, fold_name}
+use Rattle.stream_catalog.specs.Names.{is_taken}
 use Rattle.stream_catalog.specs.Streams.{is_write}
 use Rattle.stream_catalog.specs.Indices.{blocked_index, index_deleted}
 
@@ -56,7 +57,7 @@ abbrev pub deleted : Running → List ℕ → Running
 deleted r n = record r { catalog = index_deleted r.catalog n; ran = record r.ran { deleted = r.ran.deleted + 1 } }
 
 abbrev pub new_task : PlainIndex → Interval → TaskFacts
-new_task i by = record { index = i.facts.name; target = fold_name by i.facts.origin; by = by; done = 0; rises = i.facts.mapping.schema.rises }
+new_task i by = record { index = i.facts.name; target = downsample_name by i.facts.origin; by = by; done = 0; rises = i.facts.mapping.schema.rises }
 
 -- a fold begins, and blocks its index
 abbrev pub started : Running → PlainIndex → Interval → Running
@@ -70,7 +71,7 @@ started r i by = record r {
 
 -- unless its name is taken
 abbrev pub started_if_free : Running → PlainIndex → Interval → Running
-started_if_free r i by = if is_taken (fold_name by i.facts.origin) (facts_of r.catalog) then r else started r i by
+started_if_free r i by = if is_taken (downsample_name by i.facts.origin) (facts_of r.catalog) then r else started r i by
 
 abbrev pub start_at : Running → List ℕ → Interval → Running
 start_at r n by = with_found (index_named n r.catalog.indices) r (λ i. started_if_free r i by)

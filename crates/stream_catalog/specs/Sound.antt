@@ -7,24 +7,28 @@ use Rattle.row_cells.specs.declared.schemas.Schema.{Schema}
 use Rattle.row_cells.specs.Each.{Each}
 use Rattle.row_cells.specs.Fitting.{folded_form}
 use Rattle.row_cells.specs.Joining.{FieldsAgree}
-use Rattle.row_cells.specs.RowLists.{documents}
+use Rattle.row_cells.specs.KeyedRows.{IsRowOf}
+use Rattle.row_cells.specs.Limits.{most_documents}
+use Rattle.row_cells.specs.RowLists.{AreDistinct, documents}
 use Rattle.time_text.specs.declared.intervals.Interval.{Interval}
 use Rattle.time_text.specs.Bucket.{bucket_start}
 use Rattle.time_text.specs.Instant.{IsInstant}
 use Rattle.time_text.specs.Interval.{ms_of}
 use Rattle.downsample_fold.specs.Conditions.{AllAtStarts}
-use Rattle.row_cells.specs.RowLists.{AreDistinct}
 use Rattle.downsample_fold.specs.Intervals.{interval_fault}
 use Rattle.downsample_fold.specs.Laws.{series_of, KeysAscend}
+use Rattle.index_names.specs.Backing.{greatest_generation}
 use Rattle.lifecycle_swap.specs.Lifecycles.{IsLifecycle}
 use Rattle.lifecycle_swap.specs.declared.lifecycles.Lifecycle.{Lifecycle}
+use Rattle.ts_mapping.specs.Ranges.{IsInRange}
+use Rattle.ts_mapping.specs.Schemas.{IsTemplateSchema}
+use Rattle.ts_mapping.specs.declared.templates.Mapping.{Mapping}
 use Rattle.ts_mapping.specs.declared.templates.Template.{Template}
 use Rattle.stream_catalog.specs.declared.facts.HeldIndex.{HeldIndex}
 use Rattle.stream_catalog.specs.Plain.{PlainIndex, PlainStream, PlainCatalog, PlainFacts, facts_of}
 use Rattle.stream_catalog.specs.Ways.{see_catalog}
 use Rattle.stream_catalog.specs.Lists.{template_name, stream_name, facts_name, template_named, facts_named, index_named}
-use Rattle.stream_catalog.specs.Names.{names_of, most_templates, most_streams, most_indices, most_documents, last_generation}
-use Rattle.stream_catalog.specs.Wanted.{IsRowOf, IsTemplate, IsMapping}
+use Rattle.stream_catalog.specs.Names.{names_of, most_templates, most_streams, most_indices}
 
 -- ---- the rows of an index
 
@@ -62,6 +66,21 @@ pub record IsIndexSound (i : PlainIndex) : Type 0 where
   pub rows : AreRows i.facts.interval i.facts.mapping.schema i.facts.start i.facts.end i.rows
   pub distinct : AreDistinct i.rows
   pub few : documents i.rows ≤ most_documents
+
+-- ---- templates
+
+-- a template that some body gives: what is known of it
+pub record IsTemplate (t : Template) : Type 0 where
+  pub schema : IsTemplateSchema t.schema
+  pub raw : t.schema.folded ≡ false
+  pub rising : t.schema.rises ≡ true
+  pub range : IsInRange t
+
+-- a mapping that some template had, in any form
+pub record IsMapping (m : Mapping) : Type 0 where
+  pub schema : IsTemplateSchema m.schema
+  pub some_shards : 1 ≤ m.shards
+  pub few_shards : m.shards ≤ 64
 
 -- ---- facts
 
@@ -103,7 +122,7 @@ IsLife (Some life) = IsLifecycle life
 
 -- a stream has a template and one or more members of it, whose windows stand one behind the other
 pub record IsStream (f : PlainFacts) (s : PlainStream) : Type 0 where
-  pub generation : s.facts.generation ≤ last_generation
+  pub generation : s.facts.generation ≤ greatest_generation
   pub life : IsLife s.life
   pub template : IsThere (template_named s.facts.template f.templates)
   pub some : 0 < length s.facts.members

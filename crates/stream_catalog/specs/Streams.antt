@@ -5,8 +5,9 @@ use Rattle.std.specs.List.{list_any, find}
 use Rattle.std.specs.Option.{is_some, option_map, option_or}
 use Rattle.std.specs.Ordering.{int_eq}
 use Rattle.row_cells.specs.declared.schemas.Field.{Field}
-use Rattle.ts_mapping.specs.declared.templates.Mapping.{Mapping}
+use Rattle.ts_mapping.specs.Ranges.{mapping_of}
 use Rattle.ts_mapping.specs.declared.templates.Template.{Template}
+use Rattle.index_names.specs.Backing.{backing_name, greatest_generation, is_reserved}
 use Rattle.lifecycle_swap.specs.Ends.{end_after}
 use Rattle.time_text.specs.Instant.{last_instant}
 use Rattle.lifecycle_swap.specs.declared.lifecycles.Lifecycle.{Lifecycle}
@@ -17,8 +18,7 @@ use Rattle.stream_catalog.specs.declared.answers.Rolled.{Rolled}
 use Rattle.stream_catalog.specs.declared.facts.HeldIndex.{HeldIndex}
 use Rattle.stream_catalog.specs.Plain.{PlainIndex, PlainStream, PlainCatalog, PlainFacts}
 use Rattle.stream_catalog.specs.Lists.{when, on_found, with_found, first_of, updated, inserted, without, template_name, stream_name, index_name, template_named, stream_named, facts_named, index_named}
-use Rattle.stream_catalog.specs.Names.{most_templates, most_streams, most_indices, last_generation, is_taken, is_reserved, template_for}
-use Rattle.stream_catalog.specs.Wanted.{backing_name}
+use Rattle.stream_catalog.specs.Names.{most_templates, most_streams, most_indices, is_taken, template_for}
 use Rattle.stream_catalog.specs.Roles.{same_kind, same_role}
 
 -- why a call refused: its refusal, or want of memory, which may come at any time
@@ -52,10 +52,6 @@ abbrev pub template_put : PlainCatalog → Template → PlainCatalog
 template_put c t = record c { templates = inserted template_name t (without template_name t.name c.templates) }
 
 -- ---- a new stream
-
--- what an index keeps of the template that it is made by
-abbrev pub mapping_of : Template → Mapping
-mapping_of t = record { strict = t.strict; shards = t.shards; schema = t.schema }
 
 -- a new backing index, which has no rows yet
 abbrev pub new_index : List ℕ → Template → ℤ → ℤ → PlainIndex
@@ -147,7 +143,7 @@ rollover_refusal f name now =
     on_found (stream_named name f.streams) (NoSuchName name) (λ s.
     on_found (facts_named (write_name s) f.indices) (NoSuchName (write_name s)) (λ w. first_of (
     when (int_eq w.end last_instant) TimeOver
-    ∷ when (nat_le last_generation s.facts.generation) (Limit Generations)
+    ∷ when (nat_le greatest_generation s.facts.generation) (Limit Generations)
     ∷ when (nat_le most_indices (length f.indices)) (Limit Indices)
     ∷ when (is_taken (next_name s now) f) (NameTaken (next_name s now)) ∷ [])))
 

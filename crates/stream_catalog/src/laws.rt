@@ -1,6 +1,6 @@
 //! The laws that tie a plain catalogue to what is seen of it, for crates above.
 ghost use Rattle.stream_catalog.specs.Laws.{SeenAgain, FactsStay, ChangesGoThrough, RunsGoThrough, PutsGoThrough, RowTestsStay, SeriesStay, DownsamplesGoThrough, UnitsGoThrough, TasksKeep, ShownRows};
-ghost use Rattle.stream_catalog.specs.Laws.{DownsamplesKeepSound, LivesKeepSound, PutsKeepSound, UnitsKeepSound, BlocksKeepSound};
+ghost use Rattle.stream_catalog.specs.Laws.{BlocksKeepSound, DeletionsKeepSound, DownsamplesKeepSound, LivesKeepSound, PutsKeepSound, StreamDeletionsKeepSound, UnitsKeepSound};
 
 /// What is seen of a sound catalogue is sound, and seen again itself.
 pub fn seen_again()
@@ -35,6 +35,8 @@ pub fn changes_keep_sound()
     ensures downsamples { DownsamplesKeepSound }
     ensures units { UnitsKeepSound }
     ensures lives { LivesKeepSound }
+    ensures stream_deletions { StreamDeletionsKeepSound }
+    ensures deletions { DeletionsKeepSound }
 {}
 
 /// The rows of an index that is seen again itself fit its schema, in order, and are few.

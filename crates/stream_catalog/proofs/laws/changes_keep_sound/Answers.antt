@@ -3,6 +3,7 @@ use Rattle.stream_catalog.proofs.BlockLemmas.{blocks_keep_sound}
 use Rattle.stream_catalog.proofs.DownsampleLemmas.{downsamples_keep_sound}
 use Rattle.stream_catalog.proofs.UnitLemmas.{units_keep_sound}
 use Rattle.stream_catalog.proofs.StreamLemmas.{lives_keep_sound}
+use Rattle.stream_catalog.proofs.GoneLemmas.{stream_deletions_keep_sound, deletions_keep_sound}
 use Rattle.stream_catalog.proofs.laws.changes_keep_sound.Goals as goal
 
 pub returns-clause-puts : goal.returns-clause-puts
@@ -19,3 +20,9 @@ returns-clause-units c = units_keep_sound
 
 pub returns-clause-lives : goal.returns-clause-lives
 returns-clause-lives c = lives_keep_sound
+
+pub returns-clause-stream_deletions : goal.returns-clause-stream_deletions
+returns-clause-stream_deletions c = stream_deletions_keep_sound
+
+pub returns-clause-deletions : goal.returns-clause-deletions
+returns-clause-deletions c = deletions_keep_sound
