@@ -1,3 +1,5 @@
+pub mod Bodies
+pub mod BodyLaws
 pub mod Ends
 pub mod Lifecycles
 pub mod Plan

@@ -60,7 +60,7 @@ pub record Suits (f : PlainFacts) (form : Form) : Type 0 where
 
 -- ---- look-ups
 
-still_there : (j : HeldIndex) (is : List HeldIndex) → times j.name (map facts_name is) ≡ 0 → (m : List ℕ) (i : HeldIndex) → facts_named m is ≡ Some i → facts_named m (inserted facts_name j is) ≡ Some i
+pub still_there : (j : HeldIndex) (is : List HeldIndex) → times j.name (map facts_name is) ≡ 0 → (m : List ℕ) (i : HeldIndex) → facts_named m is ≡ Some i → facts_named m (inserted facts_name j is) ≡ Some i
 still_there j is none m i found =
     named_inserted facts_name m j is (apart_of j.name m (map facts_name is) none (some_named facts_name m is i found)) ∙ found
 

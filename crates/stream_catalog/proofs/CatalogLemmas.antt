@@ -1,7 +1,6 @@
 -- The laws of catalogues.
-use Rattle.std.specs.Prelude.{◌≡◌, ℕ, ◌==◌, ◌<◌, ◌⊎◌, ◌&&◌, nat_le, Bool, not, List, [], ◌∷◌, ◌++◌, map, length, Option, Some, None, true, false, if◌then◌else◌, bytes_eq}
+use Rattle.std.specs.Prelude.{◌≡◌, ℕ, ◌==◌, ◌<◌, ◌⊎◌, nat_le, Bool, not, List, [], ◌∷◌, ◌++◌, map, length, Option, Some, None, true, false, if◌then◌else◌}
 use Rattle.std.specs.Option.{option_map}
-use Rattle.std.specs.Ordering.{int_eq}
 use Rattle.std.proofs.Common.{refl, ap, ◌∙◌, sym, subst}
 use Rattle.std.proofs.lemmas.Bool.{both_ways}
 use Rattle.row_cells.specs.declared.rows.Row.{Row}
@@ -24,8 +23,8 @@ use Rattle.stream_catalog.specs.Lists.{with_found, on_found, first_of, when, ins
 use Rattle.stream_catalog.specs.Indices.{downsample_refusal, folded_index, write_fault}
 use Rattle.stream_catalog.specs.Puts.{MayPut}
 use Rattle.stream_catalog.specs.Units.{with_renamed, swapped, next_done, advanced, advanced_at, unit_from, unit_of}
-use Rattle.stream_catalog.specs.Sound.{IsIndexSound, IsKind, IsHeld, IsTaskOf, IsUnderWay, AreFactsSound, IsSoundCatalog}
-use Rattle.stream_catalog.specs.Laws.{SeenAgain, ChangesGoThrough, PutsGoThrough, RowTestsStay, SeriesStay, DownsamplesGoThrough, UnitsGoThrough, TasksKeep}
+use Rattle.stream_catalog.specs.Sound.{IsIndexSound, IsKind, IsHeld, IsTaskOf, IsUnderWay, AreFactsSound, IsSoundCatalog, IsSeenCatalog}
+use Rattle.stream_catalog.specs.Laws.{SeenAgain, Keeps, ChangesGoThrough, PutsGoThrough, RowTestsStay, SeriesStay, DownsamplesGoThrough, UnitsGoThrough, TasksKeep}
 use Rattle.stream_catalog.proofs.NamedLemmas.{updated-map, inserted-map, without-map, each_found, cons_eq}
 use Rattle.stream_catalog.proofs.ChangeLemmas as change
 use Rattle.stream_catalog.proofs.ChangeLemmas.{index_named-see, facts_named-facts, facts_of-see, with_indices}
@@ -80,6 +79,9 @@ seen_again c sound = record {
   };
   again = ap (with_indices c) (indices_again c.indices sound.indices);
 }
+
+pub keeps : Keeps
+keeps change c seen refines = subst IsSeenCatalog (refines.0 ∙ ap (change seen_way) seen.again) (seen_again (change plain_way c) refines.1)
 
 pub changes_go_through : ChangesGoThrough
 changes_go_through = record {

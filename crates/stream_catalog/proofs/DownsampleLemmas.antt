@@ -60,7 +60,7 @@ names_same [] = refl
 names_same (i ∷ is) = ap (λ ns. i.facts.name ∷ ns) (names_same is)
 
 -- a task goes on beside a new index
-goes_on : (j : PlainIndex) (is : List PlainIndex) (m : List ℕ) (done : ℕ) → times j.facts.name (map index_name is) ≡ 0 → IsUnderWay done (index_named m is) → IsUnderWay done (index_named m (inserted index_name j is))
+pub goes_on : (j : PlainIndex) (is : List PlainIndex) (m : List ℕ) (done : ℕ) → times j.facts.name (map index_name is) ≡ 0 → IsUnderWay done (index_named m is) → IsUnderWay done (index_named m (inserted index_name j is))
 goes_on j is m done none way = by_found (index_named m is) refl way
   where
     by_found : (o : Option PlainIndex) → index_named m is ≡ o → IsUnderWay done o → IsUnderWay done (index_named m (inserted index_name j is))

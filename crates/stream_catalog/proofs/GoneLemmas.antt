@@ -1,5 +1,5 @@
 -- Catalogues stay sound without a stream, and without an index.
-use Rattle.std.specs.Prelude.{◌≡◌, ℕ, suc, ◌+◌, ◌≤◌, ◌||◌, Bool, not, true, false, cond, List, [], ◌∷◌, ◌++◌, map, filter, length, Option, Some, None, if◌then◌else◌, bytes_eq}
+use Rattle.std.specs.Prelude.{◌≡◌, ℕ, suc, ◌+◌, ◌≤◌, ◌||◌, Bool, not, true, false, cond, List, [], ◌∷◌, ◌++◌, map, filter, Option, Some, None, if◌then◌else◌, bytes_eq}
 use Rattle.std.specs.List.{flat_map, find, list_any}
 use Rattle.std.proofs.Common.{refl, ap, ◌∙◌, sym, subst, arith}
 use Rattle.std.proofs.lemmas.List.{length-map}
@@ -10,11 +10,11 @@ use Rattle.stream_catalog.specs.declared.facts.HeldIndex.{HeldIndex}
 use Rattle.stream_catalog.specs.declared.facts.TaskFacts.{TaskFacts}
 use Rattle.stream_catalog.specs.Plain.{PlainStream, PlainCatalog, PlainFacts, facts_of}
 use Rattle.stream_catalog.specs.Lists.{on_found, with_found, without, stream_name, index_name, stream_named, facts_named, index_named}
-use Rattle.stream_catalog.specs.Streams.{has_member, is_write, stream_deleted}
-use Rattle.stream_catalog.specs.Indices.{delete_refusal, index_deleted, task_index, without_member, write_fault}
+use Rattle.stream_catalog.specs.Streams.{has_member, is_write}
+use Rattle.stream_catalog.specs.Indices.{index_deleted, task_index, without_member, write_fault}
 use Rattle.stream_catalog.specs.Laws.{StreamDeletionsKeepSound, DeletionsKeepSound}
 use Rattle.stream_catalog.specs.Sound.{times, IsStream, IsIndexSound, IsUnderWay, AreFactsSound, IsSoundCatalog}
-use Rattle.stream_catalog.proofs.NamedLemmas.{none_not_some, some_is, filter-map_alike}
+use Rattle.stream_catalog.proofs.NamedLemmas.{none_not_some, none_found, some_is, filter-map_alike}
 use Rattle.stream_catalog.proofs.CountLemmas.{bytes_eq-sym, bytes_eq-itself, times-append, times-filter, length-filter, ascend_filter, other_head}
 use Rattle.stream_catalog.proofs.AddedLemmas.{each_map}
 use Rattle.stream_catalog.proofs.FoldedLemmas.{none_map}
@@ -133,14 +133,6 @@ stream_deletions_keep_sound c name sound = by_found (stream_named name c.streams
 
 -- ---- without an index
 
-no_writer : (n : List ℕ) (ss : List PlainStream) → find (λ s. is_write s n) ss ≡ None → Each (λ s. is_write s n ≡ false) ss
-no_writer n [] none = tt
-no_writer n (s ∷ ss) none = by_test (is_write s n) refl none (no_writer n ss)
-  where
-    by_test : (b : Bool) → is_write s n ≡ b → cond b (Some s) (find (λ z. is_write z n) ss) ≡ None → (find (λ z. is_write z n) ss ≡ None → Each (λ z. is_write z n ≡ false) ss) → (is_write s n ≡ false) × Each (λ z. is_write z n ≡ false) ss
-    by_test true is none later = absurd (none_not_some (sym none))
-    by_test false is none later = (is, later none)
-
 names-shorter : (n : List ℕ) (ss : List PlainStream) → map stream_name (map (without_member n) ss) ≡ map stream_name ss
 names-shorter n [] = refl
 names-shorter n (s ∷ ss) = ap (λ ns. s.facts.name ∷ ns) (names-shorter n ss)
@@ -176,7 +168,7 @@ index_deleted-sound c n others sound =
     (each_passes kept c.tasks) sound
 
 pub not_written : (f : PlainFacts) (n : List ℕ) → write_fault f n ≡ None → Each (λ s. is_write s n ≡ false) f.streams
-not_written f n none = no_writer n f.streams (none_map _ (find (λ s. is_write s n) f.streams) none)
+not_written f n none = none_found (λ s. is_write s n) f.streams (none_map _ (find (λ s. is_write s n) f.streams) none)
 
 pub deletions_keep_sound : DeletionsKeepSound
 deletions_keep_sound c n sound none = index_deleted-sound c n (not_written (facts_of c) n (by_found (facts_named n (facts_of c).indices) none)) sound

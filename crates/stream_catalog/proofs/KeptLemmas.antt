@@ -1,5 +1,5 @@
 -- Facts that stay sound where indices, tasks and members are taken out.
-use Rattle.std.specs.Prelude.{◌≡◌, ℕ, suc, ℤ, ◌+◌, ◌≤◌, ◌<◌, ◌≤ℤ◌, ◌<ℤ◌, Bool, not, true, false, cond, List, [], ◌∷◌, ◌++◌, map, filter, length, Option, Some, None, if◌then◌else◌, bytes_eq}
+use Rattle.std.specs.Prelude.{◌≡◌, ℕ, suc, ℤ, ◌≤◌, ◌<◌, ◌≤ℤ◌, ◌<ℤ◌, Bool, not, true, false, cond, List, [], ◌∷◌, map, filter, length, Option, Some, None, if◌then◌else◌, bytes_eq}
 use Rattle.std.specs.List.{flat_map}
 use Rattle.std.proofs.Common.{refl, ap, ◌∙◌, sym, subst, arith}
 use Rattle.std.proofs.lemmas.Bool.{both_ways}
@@ -11,12 +11,12 @@ use Rattle.stream_catalog.specs.declared.facts.HeldIndex.{HeldIndex}
 use Rattle.stream_catalog.specs.declared.facts.TaskFacts.{TaskFacts}
 use Rattle.stream_catalog.specs.Plain.{PlainStream, PlainFacts}
 use Rattle.stream_catalog.specs.Lists.{named, stream_name, facts_name, facts_named}
-use Rattle.stream_catalog.specs.Streams.{last_of, is_write, write_name}
+use Rattle.stream_catalog.specs.Streams.{last_of, is_write}
 use Rattle.stream_catalog.specs.Indices.{without_member, task_index}
 use Rattle.stream_catalog.specs.Lists.{with_found}
-use Rattle.stream_catalog.specs.Sound.{times, AreOnce, Form, form_of, template_form, Agrees, IsHeld, IsMemberOf, EndsBefore, WindowsFollow, IsStream, IsTaskOf, AreFactsSound}
-use Rattle.stream_catalog.proofs.NamedLemmas.{none_not_some, cons_eq, each_found}
-use Rattle.stream_catalog.proofs.CountLemmas.{times-append, times-filter, length-filter, ascend_filter}
+use Rattle.stream_catalog.specs.Sound.{times, Form, form_of, template_form, Agrees, IsHeld, IsMemberOf, EndsBefore, WindowsFollow, IsStream, IsTaskOf, AreFactsSound}
+use Rattle.stream_catalog.proofs.NamedLemmas.{cons_eq, each_found}
+use Rattle.stream_catalog.proofs.CountLemmas.{times-filter, length-filter, ascend_filter}
 use Rattle.stream_catalog.proofs.AddedLemmas.{each_map, each_of_map, in_three}
 
 -- ---- what stays by its name

@@ -16,3 +16,9 @@ mod UnitLemmas
 mod StreamLemmas
 mod KeptLemmas
 mod GoneLemmas
+mod RoleLemmas
+mod TemplateLemmas
+mod WindowLemmas
+mod NewLemmas
+mod RollLemmas
+mod MoveLemmas

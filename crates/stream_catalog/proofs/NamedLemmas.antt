@@ -1,5 +1,6 @@
 -- Look-ups and changes by name go through what keeps names.
 use Rattle.std.specs.Prelude.{◌≡◌, ℕ, Bool, not, true, false, cond, List, [], ◌∷◌, map, filter, Some, None, if◌then◌else◌, bytes_eq}
+use Rattle.std.specs.List.{find}
 use Rattle.std.specs.Option.{option_map}
 use Rattle.std.specs.Ordering.{is_le, nat_cmp}
 use Rattle.std.specs.Cmp.Lexicographic.{slice_cmp}
@@ -166,3 +167,13 @@ module _ {A : Type 0} (name : A → List ℕ) where
       by_test : (b : Bool) → map name (updated name n g xs) ≡ map name xs → map name (if b then g x ∷ xs else x ∷ updated name n g xs) ≡ name x ∷ map name xs
       by_test true later = ap (λ m. m ∷ map name xs) (keeps x)
       by_test false later = ap (λ ms. name x ∷ ms) later
+
+-- ---- what no test finds
+
+pub none_found : {A : Type 0} (test : A → Bool) (xs : List A) → find test xs ≡ None → Each (λ x. test x ≡ false) xs
+none_found test [] none = tt
+none_found test (x ∷ xs) none = by_test (test x) refl none (none_found test xs)
+  where
+    by_test : (b : Bool) → test x ≡ b → cond b (Some x) (find test xs) ≡ None → (find test xs ≡ None → Each (λ y. test y ≡ false) xs) → (test x ≡ false) × Each (λ y. test y ≡ false) xs
+    by_test true is none later = absurd (none_not_some (sym none))
+    by_test false is none later = (is, later none)

@@ -1,6 +1,6 @@
 -- What is seen of a sound index is sound, and seen again itself.
-use Rattle.std.specs.Prelude.{◌≡◌, ℕ, ℤ, Bool, ◌<◌, ◌≤◌, ◌⊎◌, List, length, Option, Some, None, true, false}
-use Rattle.std.proofs.Common.{refl, ap, ◌∙◌, sym, subst, inl, inr}
+use Rattle.std.specs.Prelude.{◌≡◌, ℕ, ℤ, Bool, ◌<◌, ◌≤◌, ◌⊎◌, List, Option, Some, None, true, false}
+use Rattle.std.proofs.Common.{ap, ◌∙◌, sym, subst, inl, inr}
 use Rattle.std.proofs.Math.Nat.{mod_self}
 use Rattle.row_cells.specs.declared.schemas.Schema.{Schema}
 use Rattle.row_cells.specs.declared.rows.Row.{Row}
@@ -18,7 +18,7 @@ use Rattle.downsample_fold.specs.Direct.{down}
 use Rattle.row_cells.specs.OrderLaws.{in_row_order-same, in_row_order-ascends, in_row_order-each, documents-in_row_order}
 use Rattle.row_cells.specs.SetLaws.{sorted_distinct}
 use Rattle.downsample_fold.specs.JoinedFitLaws.{AllFit-cells}
-use Rattle.downsample_fold.specs.FoldLaws.{folds_compose, folds_in_order, folds_at_starts, folds_count_all, folds_fit}
+use Rattle.downsample_fold.specs.FoldLaws.{folds_compose, folds_in_order, folds_at_starts, folds_count_all}
 use Rattle.stream_catalog.specs.Plain.{PlainIndex}
 use Rattle.stream_catalog.specs.Ways.{shown_by, see_index}
 use Rattle.stream_catalog.specs.Sound.{raw_form, IsWithin, AreRaw, Meets, AreFolds, AreRows, IsIndexSound}

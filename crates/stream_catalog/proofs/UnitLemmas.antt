@@ -97,11 +97,11 @@ module _ (is : List HeldIndex) (n : List ℕ) (i j : HeldIndex) (found : facts_n
 -- ---- names and members
 
 -- a member that is there is the name of an index
-member_counted : (template : List ℕ) (is : List HeldIndex) (m : List ℕ) (o : Option HeldIndex) → facts_named m is ≡ o → IsMemberOf template o → 1 ≤ times m (map facts_name is)
+pub member_counted : (template : List ℕ) (is : List HeldIndex) (m : List ℕ) (o : Option HeldIndex) → facts_named m is ≡ o → IsMemberOf template o → 1 ≤ times m (map facts_name is)
 member_counted template is m None there is_member = absurd is_member
 member_counted template is m (Some k) there is_member = some_named facts_name m is k there
 
-no_member : (f : PlainFacts) (n : List ℕ) → times n (map facts_name f.indices) ≡ 0 → (s : PlainStream) → IsStream f s → times n s.facts.members ≡ 0
+pub no_member : (f : PlainFacts) (n : List ℕ) → times n (map facts_name f.indices) ≡ 0 → (s : PlainStream) → IsStream f s → times n s.facts.members ≡ 0
 no_member f n none s is = go s.facts.members is.members
   where
     go : (ms : List (List ℕ)) → Each (λ m. IsMemberOf s.facts.template (facts_named m f.indices)) ms → times n ms ≡ 0
@@ -115,7 +115,7 @@ no_member f n none s is = go s.facts.members is.members
             absurd (omega (arith, some, same, none))
         by_test false other later = later
 
-no_members : (f : PlainFacts) (n : List ℕ) → times n (map facts_name f.indices) ≡ 0 → (ss : List PlainStream) → Each (IsStream f) ss → times n (flat_map (λ s. s.facts.members) ss) ≡ 0
+pub no_members : (f : PlainFacts) (n : List ℕ) → times n (map facts_name f.indices) ≡ 0 → (ss : List PlainStream) → Each (IsStream f) ss → times n (flat_map (λ s. s.facts.members) ss) ≡ 0
 no_members f n none [] each = refl
 no_members f n none (s ∷ ss) each =
     let here = no_member f n none s each.0 in

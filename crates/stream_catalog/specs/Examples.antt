@@ -1,6 +1,6 @@
 -- The definitions on small machines, worked out: two rows in one index of two members.
 use Rattle.std.proofs.Common.{◌≡◌, Bool, ℕ, pos, List, [], ◌∷◌, Option, Some, None, true, false, refl, arith, codes, ◌≤◌, ◌*◌}
-use Rattle.std.specs.Prelude.{map, length, Ok, Err}
+use Rattle.std.specs.Prelude.{ℤ, map, length, Ok, Err}
 use Rattle.row_cells.specs.declared.scalars.Scalar.TheVariants.{Whole, Word}
 use Rattle.row_cells.specs.declared.rows.Cell.TheVariants.{One}
 use Rattle.row_cells.specs.declared.rows.Row.{Row}
@@ -10,7 +10,8 @@ use Rattle.row_cells.specs.declared.schemas.Schema.{Schema}
 use Rattle.time_text.specs.declared.intervals.Interval.{Interval}
 use Rattle.time_text.specs.declared.units.Unit.TheVariants.{S}
 use Rattle.time_text.specs.Bucket.{bucket_start}
-use Rattle.index_names.specs.Backing.{downsample_name}
+use Rattle.time_text.specs.Printed.{day_text}
+use Rattle.index_names.specs.Backing.{backing_name, downsample_name}
 use Rattle.downsample_fold.specs.Direct.{down}
 use Rattle.lifecycle_swap.specs.declared.lifecycles.Lifecycle.{Lifecycle}
 use Rattle.ts_mapping.specs.declared.templates.Mapping.{Mapping}
@@ -26,7 +27,7 @@ use Rattle.stream_catalog.specs.Indices.{downsample_refusal, downsampled, delete
 use Rattle.stream_catalog.specs.Moves.{moves_refusal, moved_all}
 use Rattle.stream_catalog.specs.Puts.{put_into, picked_by}
 use Rattle.stream_catalog.specs.Rounds.{lifecycle_run}
-use Rattle.stream_catalog.specs.Streams.{stream_deleted}
+use Rattle.stream_catalog.specs.Streams.{stream_deleted, rolled_over}
 use Rattle.stream_catalog.specs.Units.{unit_of}
 
 abbrev schema : Schema
@@ -79,6 +80,9 @@ numbers c = map (λ i. length i.rows) c.indices
 
 abbrev index_names : PlainCatalog → List (List ℕ)
 index_names c = map (λ i. i.facts.name) c.indices
+
+abbrev windows : PlainCatalog → List (ℤ × ℤ)
+windows c = map {B = ℤ × ℤ} (λ i. (i.facts.start, i.facts.end)) c.indices
 
 -- a put, in either way
 pub put_plain : numbers (put_into plain_way (two false None []) (codes "b") (row_at 97 11000 1)) ≡ 2 ∷ 1 ∷ []
@@ -155,6 +159,16 @@ deleted_task = refl
 
 pub all_gone : numbers (stream_deleted (folding 1) (codes "s")) ≡ []
 all_gone = refl
+
+-- a new write index begins where the last one ends, also where the present is behind that, and reaches as far ahead of the later
+-- of both as its template looks
+pub rolled_late : windows (rolled_over (two false None []) (codes "s") (pos 25000)) ≡ (pos 20000, pos 85000) ∷ (pos 0, pos 10000) ∷ (pos 10000, pos 20000) ∷ []
+unfolding backing_name day_text
+rolled_late = refl
+
+pub rolled_early : windows (rolled_over (two false None []) (codes "s") (pos 15000)) ≡ (pos 20000, pos 80000) ∷ (pos 0, pos 10000) ∷ (pos 10000, pos 20000) ∷ []
+unfolding backing_name day_text
+rolled_early = refl
 
 -- a lifecycle run extends the write index, and starts a fold, or deletes where the retention is over
 abbrev keeping : Option Lifecycle

@@ -5,6 +5,7 @@ use Rattle.row_cells.specs.declared.schemas.Schema.{Schema}
 use Rattle.row_cells.specs.Each.{Each}
 use Rattle.row_cells.specs.KeyedRows.{IsRowOf}
 use Rattle.row_cells.specs.RowLists.{AreInRowOrder, documents, has_place, in_row_order}
+use Rattle.time_text.specs.Instant.{IsInstant}
 use Rattle.time_text.specs.declared.intervals.Interval.{Interval}
 use Rattle.downsample_fold.specs.Laws.{series_of}
 use Rattle.lifecycle_swap.specs.Lifecycles.{IsLifecycle}
@@ -12,15 +13,15 @@ use Rattle.lifecycle_swap.specs.declared.lifecycles.Lifecycle.{Lifecycle}
 use Rattle.ts_mapping.specs.declared.templates.Template.{Template}
 use Rattle.stream_catalog.specs.declared.answers.Move.{Move}
 use Rattle.stream_catalog.specs.Plain.{PlainIndex, PlainCatalog, facts_of}
-use Rattle.stream_catalog.specs.Ways.{plain_way, seen_way, see_index, see_catalog, kept_rows}
+use Rattle.stream_catalog.specs.Ways.{Way, plain_way, seen_way, see_index, see_catalog, kept_rows}
 use Rattle.stream_catalog.specs.Lists.{index_named}
-use Rattle.stream_catalog.specs.Streams.{template_put, created, stream_deleted, life_set, rolled_over}
+use Rattle.stream_catalog.specs.Streams.{template_refusal, template_put, create_refusal, created, stream_deleted, life_set, rollover_refusal, rolled_over}
 use Rattle.stream_catalog.specs.Indices.{blocked_in, delete_refusal, downsample_refusal, downsampled, index_deleted}
-use Rattle.stream_catalog.specs.Moves.{moved_all}
+use Rattle.stream_catalog.specs.Moves.{moves_refusal, moved_all}
 use Rattle.stream_catalog.specs.Puts.{MayPut, put_into}
 use Rattle.stream_catalog.specs.Rounds.{Running, lifecycle_run}
 use Rattle.stream_catalog.specs.Units.{unit_of}
-use Rattle.stream_catalog.specs.Sound.{IsIndexSound, IsSoundCatalog, IsSeenCatalog}
+use Rattle.stream_catalog.specs.Sound.{IsTemplate, IsIndexSound, IsSoundCatalog, IsSeenCatalog}
 
 -- what is seen of a sound catalogue is sound, and seen again itself
 abbrev pub SeenAgain : Type 0
@@ -113,3 +114,25 @@ StreamDeletionsKeepSound = (c : PlainCatalog) (name : List ℕ) → IsSoundCatal
 
 abbrev pub DeletionsKeepSound : Type 0
 DeletionsKeepSound = (c : PlainCatalog) (n : List ℕ) → IsSoundCatalog c → delete_refusal (facts_of c) n ≡ None → IsSoundCatalog (index_deleted c n)
+
+abbrev pub TemplatesKeepSound : Type 0
+TemplatesKeepSound = (c : PlainCatalog) (t : Template) → IsTemplate t → IsSoundCatalog c → template_refusal (facts_of c) t ≡ None → IsSoundCatalog (template_put c t)
+
+abbrev pub CreationsKeepSound : Type 0
+CreationsKeepSound = (c : PlainCatalog) (name : List ℕ) (now : ℤ) → IsInstant now → IsSoundCatalog c → create_refusal (facts_of c) name now ≡ None → IsSoundCatalog (created c name now)
+
+abbrev pub RolloversKeepSound : Type 0
+RolloversKeepSound = (c : PlainCatalog) (name : List ℕ) (now : ℤ) → IsInstant now → IsSoundCatalog c → rollover_refusal (facts_of c) name now ≡ None → IsSoundCatalog (rolled_over c name now)
+
+abbrev pub MovesKeepSound : Type 0
+MovesKeepSound = (c : PlainCatalog) (moves : List Move) → IsSoundCatalog c → moves_refusal (facts_of c) moves ≡ None → IsSoundCatalog (moved_all c moves)
+
+-- ---- what the code keeps
+
+-- a change that goes through seeing, and keeps a catalogue sound
+abbrev pub Refines : (Way → PlainCatalog → PlainCatalog) → PlainCatalog → Type 0
+Refines change c = (see_catalog (change plain_way c) ≡ change seen_way (see_catalog c)) × IsSoundCatalog (change plain_way c)
+
+-- such a change leaves what is seen of a catalogue
+abbrev pub Keeps : Type 0
+Keeps = (change : Way → PlainCatalog → PlainCatalog) (c : PlainCatalog) → IsSeenCatalog c → Refines change c → IsSeenCatalog (change seen_way c)

@@ -1,7 +1,6 @@
 -- Rows that are put, and which index takes them.
-use Rattle.std.specs.Prelude.{◌≡◌, ℕ, ℤ, Bool, ◌&&◌, true, false, int_le, int_lt, nat_le, List, length, bytes_eq, Option, Some, None, Result, Ok, Err, if◌then◌else◌}
-use Rattle.std.specs.List.{list_any, find}
-use Rattle.std.specs.Ordering.{int_eq}
+use Rattle.std.specs.Prelude.{◌≡◌, ℕ, ℤ, Bool, ◌&&◌, true, false, int_le, int_lt, nat_le, List, length, Option, Some, None, Result, Ok, Err, if◌then◌else◌}
+use Rattle.std.specs.List.{find}
 use Rattle.row_cells.specs.declared.rows.Row.{Row}
 use Rattle.stream_catalog.specs.declared.answers.PickError.{PickError}
 use Rattle.stream_catalog.specs.declared.answers.PickError.TheVariants.{NoWindow, Blocked}

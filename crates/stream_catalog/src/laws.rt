@@ -1,10 +1,16 @@
 //! The laws that tie a plain catalogue to what is seen of it, for crates above.
-ghost use Rattle.stream_catalog.specs.Laws.{SeenAgain, FactsStay, ChangesGoThrough, RunsGoThrough, PutsGoThrough, RowTestsStay, SeriesStay, DownsamplesGoThrough, UnitsGoThrough, TasksKeep, ShownRows};
-ghost use Rattle.stream_catalog.specs.Laws.{BlocksKeepSound, DeletionsKeepSound, DownsamplesKeepSound, LivesKeepSound, PutsKeepSound, StreamDeletionsKeepSound, UnitsKeepSound};
+ghost use Rattle.stream_catalog.specs.Laws.{Keeps, SeenAgain, FactsStay, ChangesGoThrough, RunsGoThrough, PutsGoThrough, RowTestsStay, SeriesStay, DownsamplesGoThrough, UnitsGoThrough, TasksKeep, ShownRows};
+ghost use Rattle.stream_catalog.specs.Laws.{BlocksKeepSound, CreationsKeepSound, DeletionsKeepSound, DownsamplesKeepSound, LivesKeepSound, MovesKeepSound, PutsKeepSound, RolloversKeepSound, StreamDeletionsKeepSound, TemplatesKeepSound, UnitsKeepSound};
 
 /// What is seen of a sound catalogue is sound, and seen again itself.
 pub fn seen_again()
     ensures { SeenAgain }
+{}
+
+/// A change that goes through seeing, and keeps a catalogue sound, keeps what code holds: a catalogue that is sound and seen
+/// again itself. The laws below say both of each change, so no other proof of such an invariant is needed.
+pub fn seen_stays()
+    ensures { Keeps }
 {}
 
 /// Seeing leaves facts, places and numbers of rows, and series; so tests answer alike.
@@ -37,6 +43,10 @@ pub fn changes_keep_sound()
     ensures lives { LivesKeepSound }
     ensures stream_deletions { StreamDeletionsKeepSound }
     ensures deletions { DeletionsKeepSound }
+    ensures templates { TemplatesKeepSound }
+    ensures creations { CreationsKeepSound }
+    ensures rollovers { RolloversKeepSound }
+    ensures moves { MovesKeepSound }
 {}
 
 /// The rows of an index that is seen again itself fit its schema, in order, and are few.

@@ -4,6 +4,10 @@ use Rattle.stream_catalog.proofs.DownsampleLemmas.{downsamples_keep_sound}
 use Rattle.stream_catalog.proofs.UnitLemmas.{units_keep_sound}
 use Rattle.stream_catalog.proofs.StreamLemmas.{lives_keep_sound}
 use Rattle.stream_catalog.proofs.GoneLemmas.{stream_deletions_keep_sound, deletions_keep_sound}
+use Rattle.stream_catalog.proofs.TemplateLemmas.{templates_keep_sound}
+use Rattle.stream_catalog.proofs.NewLemmas.{creations_keep_sound}
+use Rattle.stream_catalog.proofs.RollLemmas.{rollovers_keep_sound}
+use Rattle.stream_catalog.proofs.MoveLemmas.{moves_keep_sound}
 use Rattle.stream_catalog.proofs.laws.changes_keep_sound.Goals as goal
 
 pub returns-clause-puts : goal.returns-clause-puts
@@ -26,3 +30,15 @@ returns-clause-stream_deletions c = stream_deletions_keep_sound
 
 pub returns-clause-deletions : goal.returns-clause-deletions
 returns-clause-deletions c = deletions_keep_sound
+
+pub returns-clause-templates : goal.returns-clause-templates
+returns-clause-templates c = templates_keep_sound
+
+pub returns-clause-creations : goal.returns-clause-creations
+returns-clause-creations c = creations_keep_sound
+
+pub returns-clause-rollovers : goal.returns-clause-rollovers
+returns-clause-rollovers c = rollovers_keep_sound
+
+pub returns-clause-moves : goal.returns-clause-moves
+returns-clause-moves c = moves_keep_sound
