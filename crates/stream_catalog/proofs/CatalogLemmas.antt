@@ -4,7 +4,8 @@ use Rattle.std.specs.Option.{option_map}
 use Rattle.std.proofs.Common.{refl, ap, ◌∙◌, sym, subst}
 use Rattle.std.proofs.lemmas.Bool.{both_ways}
 use Rattle.row_cells.specs.declared.rows.Row.{Row}
-use Rattle.row_cells.specs.Each.{Each, Each-weaker}
+use Rattle.row_cells.specs.Each.{Each, Each-weaker, Each-both}
+use Rattle.row_cells.specs.declared.schemas.Schema.{Schema}
 use Rattle.row_cells.specs.RowLists.{insert_row}
 use Rattle.time_text.specs.declared.intervals.Interval.{Interval}
 use Rattle.row_cells.specs.RowLists.{AreDistinct}
@@ -21,16 +22,16 @@ use Rattle.stream_catalog.specs.Plain.{PlainIndex, PlainCatalog, PlainFacts, fac
 use Rattle.stream_catalog.specs.Ways.{shown_by, plain_way, seen_way, see_index, see_catalog, kept_rows}
 use Rattle.stream_catalog.specs.Lists.{with_found, on_found, first_of, when, inserted, without, index_name, facts_named, index_named}
 use Rattle.stream_catalog.specs.Indices.{downsample_refusal, folded_index, write_fault}
-use Rattle.stream_catalog.specs.Puts.{MayPut}
+use Rattle.row_cells.specs.RowLists.{has_place}
 use Rattle.stream_catalog.specs.Units.{with_renamed, swapped, next_done, advanced, advanced_at, unit_from, unit_of}
 use Rattle.stream_catalog.specs.Sound.{IsIndexSound, IsKind, IsHeld, IsTaskOf, IsUnderWay, AreFactsSound, IsSoundCatalog, IsSeenCatalog}
-use Rattle.stream_catalog.specs.Laws.{SeenAgain, Keeps, ChangesGoThrough, PutsGoThrough, RowTestsStay, SeriesStay, DownsamplesGoThrough, UnitsGoThrough, TasksKeep}
-use Rattle.stream_catalog.proofs.NamedLemmas.{updated-map, inserted-map, without-map, each_found, cons_eq}
+use Rattle.stream_catalog.specs.Laws.{IsShut, ShowsPuts, PutsKeepShowing, SoundShows, LookupsStay, SeenAgain, Keeps, ChangesGoThrough, PutsGoThrough, RowTestsStay, SeriesStay, DownsamplesGoThrough, UnitsGoThrough, TasksKeep}
+use Rattle.stream_catalog.proofs.NamedLemmas.{updated-map, inserted-map, without-map, each_found, each_updated, cons_eq}
 use Rattle.stream_catalog.proofs.ChangeLemmas as change
 use Rattle.stream_catalog.proofs.ChangeLemmas.{index_named-see, facts_named-facts, facts_of-see, with_indices}
 use Rattle.stream_catalog.proofs.FoldedLemmas.{MayFold, may_fold, same_mark, task_may, series_seen, folded_index-seen, kept_of_base, none_first, none_when, none_map}
 use Rattle.stream_catalog.proofs.SeenLemmas.{index_again, index_sound}
-use Rattle.row_cells.specs.PlaceLaws.{insert_last, has_place-in_row_order, length-in_row_order}
+use Rattle.row_cells.specs.PlaceLaws.{free_apart, push_distinct, insert_last, has_place-in_row_order, length-in_row_order}
 
 -- ---- what a sound catalogue says of an index
 
@@ -103,17 +104,39 @@ row_tests_stay = record {
   number = length-in_row_order;
 }
 
-shown_push : (facts : HeldIndex) (interval : Option Interval) (rows : List Row) (row : Row) → IsKind interval facts.blocked facts.mapping.schema → AreDistinct rows → MayPut facts rows row →
-    shown_by interval facts.mapping.schema (rows ++ row ∷ []) ≡ insert_row row (shown_by interval facts.mapping.schema rows)
-shown_push facts None rows row kind distinct may = insert_last rows row distinct may.free
-shown_push facts (Some by) rows row kind distinct may = absurd (both_ways facts.blocked may.takes kind.1)
+shown_push : (interval : Option Interval) (blocked : Bool) (schema : Schema) (rows : List Row) (row : Row) → IsShut interval blocked → AreDistinct rows → blocked ≡ false → has_place row.key row.time rows ≡ false →
+    shown_by interval schema (rows ++ row ∷ []) ≡ insert_row row (shown_by interval schema rows)
+shown_push None blocked schema rows row shut distinct takes free = insert_last rows row distinct free
+shown_push (Some by) blocked schema rows row shut distinct takes free = absurd (both_ways blocked takes shut)
 
 pub puts_go_through : PutsGoThrough
-puts_go_through c n row sound may =
+puts_go_through c n row shows finds =
     ap (with_indices c)
     (updated-map see_index index_name index_name (λ i. refl) n (λ i. record i { rows = i.rows ++ row ∷ [] }) (λ i. record i { rows = insert_row row i.rows }) c.indices
-    (λ i found. ap (λ rows. record i { rows = rows })
-    (shown_push i.facts i.facts.interval i.rows row (held_of c n i sound found).kind (sound_of c n i sound found).distinct (may i found))))
+    (λ i found.
+    let shown = each_found index_name ShowsPuts n c.indices i found shows in
+    let place = finds i found in
+    ap (λ rows. record i { rows = rows }) (shown_push i.facts.interval i.facts.blocked i.facts.mapping.schema i.rows row shown.shut shown.distinct place.0 place.1)))
+
+pub puts_keep_showing : PutsKeepShowing
+puts_keep_showing c n row shows finds =
+    each_updated index_name ShowsPuts n (λ i. record i { rows = i.rows ++ row ∷ [] }) c.indices
+    (λ i found.
+    let shown = each_found index_name ShowsPuts n c.indices i found shows in
+    record { shut = shown.shut; distinct = push_distinct i.rows row shown.distinct (free_apart row i.rows (finds i found).1) }) shows
+
+shut_of : (interval : Option Interval) (blocked : Bool) (schema : Schema) → IsKind interval blocked schema → IsShut interval blocked
+shut_of None blocked schema kind = tt
+shut_of (Some by) blocked schema kind = kind.1
+
+pub sound_shows : SoundShows
+sound_shows c sound =
+    Each-both (λ i. IsHeld (facts_of c) i.facts) IsIndexSound ShowsPuts
+    (λ i held is. record { shut = shut_of i.facts.interval i.facts.blocked i.facts.mapping.schema held.kind; distinct = is.distinct })
+    c.indices (of_facts (IsHeld (facts_of c)) c.indices sound.facts.indices) sound.indices
+
+pub lookups_stay : LookupsStay
+lookups_stay c n = index_named-see n c.indices
 
 -- ---- folds
 

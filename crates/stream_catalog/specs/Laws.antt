@@ -1,10 +1,11 @@
 -- The laws that tie a plain catalogue to what is seen of it.
-use Rattle.std.specs.Prelude.{◌≡◌, ◌≤◌, ℕ, ℤ, List, length, None, Some}
+use Rattle.std.specs.Prelude.{◌≡◌, ◌≤◌, ℕ, ℤ, Bool, true, false, List, length, Option, None, Some}
+use Rattle.std.specs.Option.{option_map}
 use Rattle.row_cells.specs.declared.rows.Row.{Row}
 use Rattle.row_cells.specs.declared.schemas.Schema.{Schema}
 use Rattle.row_cells.specs.Each.{Each}
 use Rattle.row_cells.specs.KeyedRows.{IsRowOf}
-use Rattle.row_cells.specs.RowLists.{AreInRowOrder, documents, has_place, in_row_order}
+use Rattle.row_cells.specs.RowLists.{AreDistinct, AreInRowOrder, documents, has_place, in_row_order}
 use Rattle.time_text.specs.Instant.{IsInstant}
 use Rattle.time_text.specs.declared.intervals.Interval.{Interval}
 use Rattle.downsample_fold.specs.Laws.{series_of}
@@ -57,9 +58,37 @@ RunsGoThrough = (c : PlainCatalog) (now : ℤ) → see_running (lifecycle_run c 
 abbrev pub TakesRow : PlainCatalog → List ℕ → Row → Type 0
 TakesRow c n row = (i : PlainIndex) → index_named n c.indices ≡ Some i → MayPut i.facts i.rows row
 
+-- a folded index takes no documents
+abbrev pub IsShut : Option Interval → Bool → Type 0
+IsShut None blocked = Unit {0}
+IsShut (Some by) blocked = blocked ≡ true
+
+-- an index that shows what is put into it: it is raw or shut, and no two of its rows are of one series and time
+pub record ShowsPuts (i : PlainIndex) : Type 0 where
+  pub shut : IsShut i.facts.interval i.facts.blocked
+  pub distinct : AreDistinct i.rows
+
+-- the index of this name takes documents, and has no row of this one's series and time
+abbrev pub FindsPlace : PlainCatalog → List ℕ → Row → Type 0
+FindsPlace c n row = (i : PlainIndex) → index_named n c.indices ≡ Some i → (i.facts.blocked ≡ false) × (has_place row.key row.time i.rows ≡ false)
+
 abbrev pub PutsGoThrough : Type 0
-PutsGoThrough = (c : PlainCatalog) (n : List ℕ) (row : Row) → IsSoundCatalog c → TakesRow c n row →
+PutsGoThrough = (c : PlainCatalog) (n : List ℕ) (row : Row) → Each ShowsPuts c.indices → FindsPlace c n row →
     see_catalog (put_into plain_way c n row) ≡ put_into seen_way (see_catalog c) n row
+
+abbrev pub PutsKeepShowing : Type 0
+PutsKeepShowing = (c : PlainCatalog) (n : List ℕ) (row : Row) → Each ShowsPuts c.indices → FindsPlace c n row → Each ShowsPuts (put_into plain_way c n row).indices
+
+abbrev pub SoundShows : Type 0
+SoundShows = (c : PlainCatalog) → IsSoundCatalog c → Each ShowsPuts c.indices
+
+-- an index is found by its name in what is seen where it is in the catalogue
+abbrev pub LookupsStay : Type 0
+LookupsStay = (c : PlainCatalog) (n : List ℕ) → index_named n (see_catalog c).indices ≡ option_map see_index (index_named n c.indices)
+
+-- an index of a sound catalogue is sound
+abbrev pub FoundIsSound : Type 0
+FoundIsSound = (c : PlainCatalog) (n : List ℕ) (i : PlainIndex) → IsSoundCatalog c → index_named n c.indices ≡ Some i → IsIndexSound i
 
 -- places and numbers of rows don't ask for their order
 pub record RowTestsStay : Type 0 where

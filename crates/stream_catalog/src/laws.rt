@@ -1,5 +1,5 @@
 //! The laws that tie a plain catalogue to what is seen of it, for crates above.
-ghost use Rattle.stream_catalog.specs.Laws.{Keeps, SeenAgain, FactsStay, ChangesGoThrough, RunsGoThrough, PutsGoThrough, RowTestsStay, SeriesStay, DownsamplesGoThrough, UnitsGoThrough, TasksKeep, ShownRows};
+ghost use Rattle.stream_catalog.specs.Laws.{FoundIsSound, Keeps, LookupsStay, PutsKeepShowing, SoundShows, SeenAgain, FactsStay, ChangesGoThrough, RunsGoThrough, PutsGoThrough, RowTestsStay, SeriesStay, DownsamplesGoThrough, UnitsGoThrough, TasksKeep, ShownRows};
 ghost use Rattle.stream_catalog.specs.Laws.{BlocksKeepSound, CreationsKeepSound, DeletionsKeepSound, DownsamplesKeepSound, LivesKeepSound, MovesKeepSound, PutsKeepSound, RolloversKeepSound, StreamDeletionsKeepSound, TemplatesKeepSound, UnitsKeepSound};
 
 /// What is seen of a sound catalogue is sound, and seen again itself.
@@ -18,6 +18,13 @@ pub fn tests_stay()
     ensures facts { FactsStay }
     ensures rows { RowTestsStay }
     ensures series { SeriesStay }
+    ensures lookups { LookupsStay }
+{}
+
+/// What is known of a sound catalogue's indices.
+pub fn indices_are_sound()
+    ensures found { FoundIsSound }
+    ensures shows { SoundShows }
 {}
 
 /// Each change of what is seen is what is seen of the change.
@@ -25,6 +32,7 @@ pub fn changes_go_through()
     ensures changes { ChangesGoThrough }
     ensures runs { RunsGoThrough }
     ensures puts { PutsGoThrough }
+    ensures shows { PutsKeepShowing }
     ensures downsamples { DownsamplesGoThrough }
     ensures units { UnitsGoThrough }
 {}
