@@ -1,0 +1,16 @@
+-- The laws of catalogues that these proofs stand on, together.
+use Rattle.stream_catalog.specs.Laws.{FactsStay, RowTestsStay, SeriesStay, LookupsStay, FoundIsSound, SoundShows, ChangesGoThrough, RunsGoThrough, PutsGoThrough, PutsKeepShowing, DownsamplesGoThrough, UnitsGoThrough}
+
+pub record CatalogLaws : Type 0 where
+  pub facts : FactsStay
+  pub rows : RowTestsStay
+  pub series : SeriesStay
+  pub lookups : LookupsStay
+  pub found : FoundIsSound
+  pub shows : SoundShows
+  pub changes : ChangesGoThrough
+  pub runs : RunsGoThrough
+  pub puts : PutsGoThrough
+  pub puts_keep : PutsKeepShowing
+  pub downsamples : DownsamplesGoThrough
+  pub units : UnitsGoThrough

@@ -1,0 +1,5 @@
+mod CatalogLaws
+mod SampleLemmas
+mod ItemLemmas
+mod StepLemmas
+mod MachineLemmas

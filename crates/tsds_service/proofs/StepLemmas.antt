@@ -1,0 +1,238 @@
+-- Each step of what is seen is what is seen of the step.
+use Rattle.std.specs.Prelude.{◌≡◌, ℕ, Bool, true, false, List, [], ◌∷◌, map, length, Option, Some, None, Result, Ok, Err, if◌then◌else◌}
+use Rattle.std.specs.List.{cons_option, filter_map}
+use Rattle.std.specs.Option.{option_map}
+use Rattle.std.proofs.Common.{refl, ap, ◌∙◌, sym}
+use Rattle.bulk_json.specs.Items.{bulk_of}
+use Rattle.bulk_json.specs.declared.errors.BulkError.{BulkError}
+use Rattle.bulk_json.specs.declared.items.Item.{Item}
+use Rattle.downsample_fold.specs.Laws.{series_of}
+use Rattle.lifecycle_swap.specs.Bodies.{lifecycle_of}
+use Rattle.lifecycle_swap.specs.declared.lifecycles.Lifecycle.{Lifecycle}
+use Rattle.rest_request.specs.Message as asked
+use Rattle.rest_request.specs.Message.{Message}
+use Rattle.serde_json.specs.Data.{Data}
+use Rattle.stream_catalog.specs.Indices.{block_refusal, blocked_in, downsample_refusal, downsampled, delete_refusal, index_deleted}
+use Rattle.stream_catalog.specs.Laws.{see_running}
+use Rattle.stream_catalog.specs.Lists.{with_found, stream_named, index_named}
+use Rattle.stream_catalog.specs.Moves.{moves_refusal, moved_all}
+use Rattle.stream_catalog.specs.Plain.{PlainIndex, PlainStream, PlainCatalog, PlainFacts, facts_of}
+use Rattle.stream_catalog.specs.Rounds.{Running, lifecycle_run}
+use Rattle.stream_catalog.specs.Sound.{IsSoundCatalog}
+use Rattle.stream_catalog.specs.Streams.{template_refusal, template_put, create_refusal, created, named_refusal, stream_deleted, life_set, rollover_refusal, rolled_over, rolled_names}
+use Rattle.stream_catalog.specs.Ways.{Way, plain_way, seen_way, see_index, see_catalog}
+use Rattle.stream_catalog.specs.declared.answers.CatalogError.{CatalogError}
+use Rattle.stream_catalog.specs.declared.answers.Move.{Move}
+use Rattle.stream_catalog.specs.declared.facts.TaskFacts.{TaskFacts}
+use Rattle.time_text.specs.declared.intervals.Interval.{Interval}
+use Rattle.ts_mapping.specs.Faults.{refusal_of}
+use Rattle.ts_mapping.specs.Templates.{template_of}
+use Rattle.ts_mapping.specs.declared.faults.Fault.{Fault}
+use Rattle.tsds_service.specs.Bodies.{fixed_interval_of, moves_of}
+use Rattle.tsds_service.specs.Bulk.{outcomes_of, after_items, bulk_reply}
+use Rattle.tsds_service.specs.Causes as cause
+use Rattle.tsds_service.specs.Causes.{Cause, refused}
+use Rattle.tsds_service.specs.Laws.{StepsRefine, UnitsRefine}
+use Rattle.tsds_service.specs.Machine.{Machine, see}
+use Rattle.tsds_service.specs.Questions.{Asking, facts_in, samples_of, members_of, target_of, get_reply}
+use Rattle.tsds_service.specs.Replies.{ack, stream_reply, rolled_reply, blocked_reply, ran_reply, series_count, task_tree, tasks_listed}
+use Rattle.tsds_service.specs.Step as spec
+use Rattle.tsds_service.specs.Step.{Stepped, see_stepped, About, told, changed, unless, caused, about_name, about_index, about_fold, fold_names_refusal, write_index, step_of, step}
+use Rattle.tsds_service.specs.declared.reply.Reply.{Reply}
+use Rattle.tsds_service.proofs.CatalogLaws.{CatalogLaws}
+use Rattle.tsds_service.proofs.ItemLemmas.{outcomes-see, after_items-see}
+use Rattle.tsds_service.proofs.SampleLemmas.{facts_in-see, samples_stay}
+
+-- ---- answers
+
+unless-see : (o : Option Cause) (m : Machine) (seen plain : Stepped) → (o ≡ None → seen ≡ see_stepped plain) → unless o (see m) seen ≡ see_stepped (unless o m plain)
+unless-see None m seen plain same = same refl
+unless-see (Some c) m seen plain same = refl
+
+told-see : (m : Machine) (seen plain : Reply) → seen ≡ plain → told (see m) seen ≡ see_stepped (told m plain)
+told-see m seen plain same = ap (told (see m)) same
+
+caused_none : (a : About) (refusal : Option CatalogError) → caused a refusal ≡ None → refusal ≡ None
+caused_none a None is = refl
+caused_none a (Some e) is = absurd (no is)
+  where
+    no : {A : Type 0} {x : A} → Some x ≡ None → ⊥
+    no e = cc
+
+module _ (laws : CatalogLaws) (m : Machine) where
+  -- a change that is refused by facts, and answered by facts
+  by_facts : (refusal : PlainFacts → Option Cause) (reply : PlainFacts → Reply) (plain seen : PlainCatalog → PlainCatalog) →
+      (refusal (facts_of m.catalog) ≡ None → see_catalog (plain m.catalog) ≡ seen (see_catalog m.catalog)) →
+      unless (refusal (facts_of (see_catalog m.catalog))) (see m) (changed (see m) (reply (facts_of (see_catalog m.catalog))) (seen (see_catalog m.catalog)))
+      ≡ see_stepped (unless (refusal (facts_of m.catalog)) m (changed m (reply (facts_of m.catalog)) (plain m.catalog)))
+  by_facts refusal reply plain seen goes =
+      ap (λ f. unless (refusal f) (see m) (changed (see m) (reply f) (seen (see_catalog m.catalog)))) (laws.facts m.catalog)
+      ∙ unless-see (refusal (facts_of m.catalog)) m (changed (see m) (reply (facts_of m.catalog)) (seen (see_catalog m.catalog))) (changed m (reply (facts_of m.catalog)) (plain m.catalog))
+      (λ none. ap (changed (see m) (reply (facts_of m.catalog))) (sym (goes none)))
+
+  -- one whose change has no way
+  by_change : (refusal : PlainFacts → Option Cause) (reply : PlainFacts → Reply) (change : PlainCatalog → PlainCatalog) → see_catalog (change m.catalog) ≡ change (see_catalog m.catalog) →
+      unless (refusal (facts_of (see_catalog m.catalog))) (see m) (changed (see m) (reply (facts_of (see_catalog m.catalog))) (change (see_catalog m.catalog)))
+      ≡ see_stepped (unless (refusal (facts_of m.catalog)) m (changed m (reply (facts_of m.catalog)) (change m.catalog)))
+  by_change refusal reply change goes = by_facts refusal reply change change (λ none. goes)
+
+  -- ---- templates and streams
+
+  put_template-see : (name : List ℕ) (body : Data) (fault : Option Fault) → spec.put_template (see m) name body fault ≡ see_stepped (spec.put_template m name body fault)
+  put_template-see name body (Some fault) = refl
+  put_template-see name body None =
+      by_change (λ f. caused (about_name name) (template_refusal f (template_of name body))) (λ f. ack) (λ c. template_put c (template_of name body)) (laws.changes.template_put (template_of name body) m.catalog)
+
+  get_stream-see : (name : List ℕ) → spec.get_stream (see m) name ≡ see_stepped (spec.get_stream m name)
+  get_stream-see name = by_found (stream_named name m.catalog.streams)
+    where
+      by_found : (o : Option PlainStream) → with_found o (told (see m) (refused (cause.no_such_name name))) (λ s. told (see m) (stream_reply (facts_of (see_catalog m.catalog)) s))
+          ≡ see_stepped (with_found o (told m (refused (cause.no_such_name name))) (λ s. told m (stream_reply (facts_of m.catalog) s)))
+      by_found None = refl
+      by_found (Some s) = ap (λ f. told (see m) (stream_reply f s)) (laws.facts m.catalog)
+
+  rollover-see : (name : List ℕ) → spec.rollover (see m) name ≡ see_stepped (spec.rollover m name)
+  rollover-see name =
+      by_change (λ f. caused (about_index (write_index f name)) (rollover_refusal f name m.now)) (λ f. rolled_reply (rolled_names f name m.now)) (λ c. rolled_over c name m.now) (laws.changes.rolled_over name m.now m.catalog)
+
+  put_lifecycle-see : (name : List ℕ) (body : Data) → spec.put_lifecycle (see m) name body ≡ see_stepped (spec.put_lifecycle m name body)
+  put_lifecycle-see name body = by_life (lifecycle_of body)
+    where
+      by_life : (o : Option Lifecycle) →
+          unless (caused (about_name name) (named_refusal (facts_of (see_catalog m.catalog)) name)) (see m) (with_found o (told (see m) (refused cause.bad_body)) (λ life. changed (see m) ack (life_set (see_catalog m.catalog) name life)))
+          ≡ see_stepped (unless (caused (about_name name) (named_refusal (facts_of m.catalog) name)) m (with_found o (told m (refused cause.bad_body)) (λ life. changed m ack (life_set m.catalog name life))))
+      by_life None =
+          ap (λ f. unless (caused (about_name name) (named_refusal f name)) (see m) (told (see m) (refused cause.bad_body))) (laws.facts m.catalog)
+          ∙ unless-see (caused (about_name name) (named_refusal (facts_of m.catalog) name)) m (told (see m) (refused cause.bad_body)) (told m (refused cause.bad_body)) (λ none. refl)
+      by_life (Some life) = by_change (λ f. caused (about_name name) (named_refusal f name)) (λ f. ack) (λ c. life_set c name life) (laws.changes.life_set name life m.catalog)
+
+  -- ---- indices
+
+  downsample-see : IsSoundCatalog m.catalog → (source target : List ℕ) (by : Option Interval) → spec.downsample_by seen_way (see m) source target by ≡ see_stepped (spec.downsample_by plain_way m source target by)
+  downsample-see sound source target None =
+      ap (λ f. unless (caused (about_name target) (fold_names_refusal f source target)) (see m) (told (see m) (refused cause.bad_body))) (laws.facts m.catalog)
+      ∙ unless-see (caused (about_name target) (fold_names_refusal (facts_of m.catalog) source target)) m (told (see m) (refused cause.bad_body)) (told m (refused cause.bad_body)) (λ none. refl)
+  downsample-see sound source target (Some by) =
+      by_facts (λ f. caused (about_fold f source target by) (downsample_refusal f source target by)) (λ f. ack) (λ c. downsampled plain_way c source target by) (λ c. downsampled seen_way c source target by)
+      (λ none. laws.downsamples m.catalog source target by sound (caused_none (about_fold (facts_of m.catalog) source target by) (downsample_refusal (facts_of m.catalog) source target by) none))
+
+  modify-see : (body : Data) → spec.modify (see m) body ≡ see_stepped (spec.modify m body)
+  modify-see body = by_moves (moves_of body)
+    where
+      by_moves : (o : Option (List Move)) →
+          with_found o (told (see m) (refused cause.bad_body)) (λ moves. unless (caused (about_name []) (moves_refusal (facts_of (see_catalog m.catalog)) moves)) (see m) (changed (see m) ack (moved_all (see_catalog m.catalog) moves)))
+          ≡ see_stepped (with_found o (told m (refused cause.bad_body)) (λ moves. unless (caused (about_name []) (moves_refusal (facts_of m.catalog) moves)) m (changed m ack (moved_all m.catalog moves))))
+      by_moves None = refl
+      by_moves (Some moves) = by_change (λ f. caused (about_name []) (moves_refusal f moves)) (λ f. ack) (λ c. moved_all c moves) (laws.changes.moved moves m.catalog)
+
+  -- ---- documents
+
+  bulk-see : IsSoundCatalog m.catalog → (items : Result (List Item) BulkError) → spec.bulk seen_way (see m) items ≡ see_stepped (spec.bulk plain_way m items)
+  bulk-see sound (Err e) = refl
+  bulk-see sound (Ok items) =
+      let shows = laws.shows m.catalog sound in
+      ap (λ os. changed (see m) (bulk_reply items os) (after_items seen_way (see_catalog m.catalog) items)) (outcomes-see laws m.catalog shows items)
+      ∙ ap (changed (see m) (bulk_reply items (outcomes_of plain_way m.catalog items))) (sym (after_items-see laws m.catalog shows items))
+
+  -- ---- questions
+
+  members-see : (ns : List (List ℕ)) → filter_map (λ n. index_named n (see_catalog m.catalog).indices) ns ≡ map see_index (filter_map (λ n. index_named n m.catalog.indices) ns)
+  members-see [] = refl
+  members-see (n ∷ ns) = ap (λ o. cons_option o (filter_map (λ k. index_named k (see_catalog m.catalog).indices) ns)) (laws.lookups m.catalog n) ∙ by_found (index_named n m.catalog.indices) (members-see ns)
+    where
+      by_found : (o : Option PlainIndex) → filter_map (λ k. index_named k (see_catalog m.catalog).indices) ns ≡ map see_index (filter_map (λ k. index_named k m.catalog.indices) ns) →
+          cons_option (option_map see_index o) (filter_map (λ k. index_named k (see_catalog m.catalog).indices) ns) ≡ map see_index (cons_option o (filter_map (λ k. index_named k m.catalog.indices) ns))
+      by_found None later = later
+      by_found (Some i) later = ap (λ is. see_index i ∷ is) later
+
+  target-see : (name : List ℕ) → target_of (see_catalog m.catalog) name ≡ option_map (map see_index) (target_of m.catalog name)
+  target-see name = by_stream (stream_named name m.catalog.streams)
+    where
+      one : Option PlainIndex → Option (List PlainIndex)
+      one o = with_found o None (λ i. Some (i ∷ []))
+
+      by_index : (o : Option PlainIndex) → one (option_map see_index o) ≡ option_map (map see_index) (one o)
+      by_index None = refl
+      by_index (Some i) = refl
+
+      by_stream : (o : Option PlainStream) → with_found o (one (index_named name (see_catalog m.catalog).indices)) (λ s. Some (members_of (see_catalog m.catalog) s))
+          ≡ option_map (map see_index) (with_found o (one (index_named name m.catalog.indices)) (λ s. Some (members_of m.catalog s)))
+      by_stream None = ap one (laws.lookups m.catalog name) ∙ by_index (index_named name m.catalog.indices)
+      by_stream (Some s) = ap (λ is. Some is) (members-see s.facts.members)
+
+  asked-see : (name : List ℕ) (answer : Way → List PlainIndex → Reply) → ((is : List PlainIndex) → answer seen_way (map see_index is) ≡ answer plain_way is) →
+      with_found (target_of (see_catalog m.catalog) name) (refused (cause.no_such_name name)) (answer seen_way) ≡ with_found (target_of m.catalog name) (refused (cause.no_such_name name)) (answer plain_way)
+  asked-see name answer same = ap (λ o. with_found o (refused (cause.no_such_name name)) (answer seen_way)) (target-see name) ∙ by_found (target_of m.catalog name)
+    where
+      by_found : (o : Option (List PlainIndex)) → with_found (option_map (map see_index) o) (refused (cause.no_such_name name)) (answer seen_way) ≡ with_found o (refused (cause.no_such_name name)) (answer plain_way)
+      by_found None = refl
+      by_found (Some is) = same is
+
+  document-see : (n id : List ℕ) → with_found (index_named n (see_catalog m.catalog).indices) (refused (cause.no_such_name n)) (λ i. get_reply seen_way i id) ≡ with_found (index_named n m.catalog.indices) (refused (cause.no_such_name n)) (λ i. get_reply plain_way i id)
+  document-see n id = ap (λ o. with_found o (refused (cause.no_such_name n)) (λ i. get_reply seen_way i id)) (laws.lookups m.catalog n) ∙ by_found (index_named n m.catalog.indices)
+    where
+      by_found : (o : Option PlainIndex) → with_found (option_map see_index o) (refused (cause.no_such_name n)) (λ i. get_reply seen_way i id) ≡ with_found o (refused (cause.no_such_name n)) (λ i. get_reply plain_way i id)
+      by_found None = refl
+      by_found (Some i) = refl
+
+  -- ---- tasks
+
+  series-see : IsSoundCatalog m.catalog → (t : TaskFacts) → series_count (see_catalog m.catalog) t ≡ series_count m.catalog t
+  series-see sound t = ap (λ o. with_found o 0 (λ i. length (series_of i.rows))) (laws.lookups m.catalog t.index) ∙ by_found (index_named t.index m.catalog.indices) refl
+    where
+      by_found : (o : Option PlainIndex) → index_named t.index m.catalog.indices ≡ o → with_found (option_map see_index o) 0 (λ i. length (series_of i.rows)) ≡ with_found o 0 (λ i. length (series_of i.rows))
+      by_found None found = refl
+      by_found (Some i) found = ap length (laws.series i (laws.found m.catalog t.index i sound found))
+
+  tasks-see : IsSoundCatalog m.catalog → (ts : List TaskFacts) → map (λ t. task_tree t (series_count (see_catalog m.catalog) t)) ts ≡ map (λ t. task_tree t (series_count m.catalog t)) ts
+  tasks-see sound [] = refl
+  tasks-see sound (t ∷ ts) =
+      ap (λ k. task_tree t k ∷ map (λ u. task_tree u (series_count (see_catalog m.catalog) u)) ts) (series-see sound t)
+      ∙ ap (λ trees. task_tree t (series_count m.catalog t) ∷ trees) (tasks-see sound ts)
+
+  run-see : (run : Running) → lifecycle_run (see_catalog m.catalog) m.now ≡ see_running run → changed (see m) (ran_reply (lifecycle_run (see_catalog m.catalog) m.now).ran) (lifecycle_run (see_catalog m.catalog) m.now).catalog ≡ see_stepped (changed m (ran_reply run.ran) run.catalog)
+  run-see run same = ap (λ (r : Running). changed (see m) (ran_reply r.ran) r.catalog) same
+
+  flush-see : spec.flush (see m) ≡ see_stepped (spec.flush m)
+  flush-see = by_test m.kept
+    where
+      by_test : (b : Bool) → (if b then record { reply = ack; machine = see m; wrote = true } else told (see m) (refused cause.no_data))
+          ≡ see_stepped (if b then record { reply = ack; machine = m; wrote = true } else told m (refused cause.no_data))
+      by_test true = refl
+      by_test false = refl
+
+  -- ---- all requests
+
+  pub step_of-see : (asking : Asking) (message : Message) → IsSoundCatalog m.catalog → step_of asking seen_way (see m) message ≡ see_stepped (step_of asking plain_way m message)
+  step_of-see asking (asked.put_template name body) sound = put_template-see name body (refusal_of body)
+  step_of-see asking (asked.put_stream name) sound =
+      by_change (λ f. caused (about_name name) (create_refusal f name m.now)) (λ f. ack) (λ c. created c name m.now) (laws.changes.created name m.now m.catalog)
+  step_of-see asking (asked.get_stream name) sound = get_stream-see name
+  step_of-see asking (asked.delete_stream name) sound =
+      by_change (λ f. caused (about_name name) (named_refusal f name)) (λ f. ack) (λ c. stream_deleted c name) (laws.changes.stream_deleted name m.catalog)
+  step_of-see asking (asked.bulk path body) sound = bulk-see sound (bulk_of path body)
+  step_of-see asking (asked.rollover name) sound = rollover-see name
+  step_of-see asking (asked.block n) sound =
+      by_change (λ f. caused (about_index n) (block_refusal f n)) (λ f. blocked_reply n) (λ c. blocked_in c n) (laws.changes.blocked n m.catalog)
+  step_of-see asking (asked.downsample source target body) sound = downsample-see sound source target (fixed_interval_of body)
+  step_of-see asking (asked.modify body) sound = modify-see body
+  step_of-see asking (asked.delete_index n) sound =
+      by_change (λ f. caused (about_index n) (delete_refusal f n)) (λ f. ack) (λ c. index_deleted c n) (laws.changes.index_deleted n m.catalog)
+  step_of-see asking (asked.put_lifecycle name body) sound = put_lifecycle-see name body
+  step_of-see asking asked.run_lifecycle sound = run-see (lifecycle_run m.catalog m.now) (sym (laws.runs m.catalog m.now))
+  step_of-see asking asked.tasks sound = ap (λ trees. told (see m) (tasks_listed trees)) (tasks-see sound m.catalog.tasks)
+  step_of-see asking (asked.search_rows name body) sound =
+      ap (told (see m)) (asked-see name (λ way is. asking.search m.now (facts_in is) (samples_of way is) body)
+      (λ is. ap (λ fs. asking.search m.now fs (samples_of seen_way (map see_index is)) body) (facts_in-see is) ∙ ap (λ os. asking.search m.now (facts_in is) os body) (samples_stay is)))
+  step_of-see asking (asked.count_rows name body) sound =
+      ap (told (see m)) (asked-see name (λ way is. asking.count m.now (facts_in is) (samples_of way is) body)
+      (λ is. ap (λ fs. asking.count m.now fs (samples_of seen_way (map see_index is)) body) (facts_in-see is) ∙ ap (λ os. asking.count m.now (facts_in is) os body) (samples_stay is)))
+  step_of-see asking (asked.get_doc n id) sound = ap (told (see m)) (document-see n id)
+  step_of-see asking asked.flush sound = flush-see
+
+pub steps_refine : CatalogLaws → StepsRefine
+unfolding step
+steps_refine laws asking m message now sound = step_of-see laws (record m { now = now }) asking message sound.catalog
+
+pub units_refine : CatalogLaws → UnitsRefine
+units_refine laws m sound = ap (λ c. record (see m) { catalog = c }) (sym (laws.units m.catalog sound.catalog))

@@ -1,0 +1,9 @@
+pub mod Machine
+pub mod Causes
+pub mod Bulk
+pub mod Questions
+pub mod Bodies
+pub mod Replies
+pub mod Step
+pub mod Messages
+pub mod Laws

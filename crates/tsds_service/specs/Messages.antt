@@ -1,0 +1,28 @@
+-- What a machine does with a message: its step, or the reply to a refused reading, and then a unit.
+use Rattle.std.specs.Prelude.{ℕ, ℤ, Bool, false, List, Result, Ok, Err}
+use Rattle.rest_request.specs.Message.{Message, request_of}
+use Rattle.rest_request.specs.declared.request.RequestError.{RequestError}
+use Rattle.stream_catalog.specs.Ways.{Way}
+use Rattle.tsds_service.specs.Causes.{refused, request_cause}
+use Rattle.tsds_service.specs.Machine.{Machine, unit}
+use Rattle.tsds_service.specs.Questions.{Asking}
+use Rattle.tsds_service.specs.Step.{Stepped, step}
+use Rattle.tsds_service.specs.declared.reply.Reply.{Reply}
+
+-- the reply, the machine right after the step, the machine after its unit, and whether the first one's records were written
+pub record Told : Type 0 where
+  pub reply : Reply
+  pub stepped : Machine
+  pub after : Machine
+  pub wrote : Bool
+
+abbrev pub told_of : Way → Stepped → Told
+told_of way s = record { reply = s.reply; stepped = s.machine; after = unit way s.machine; wrote = s.wrote }
+
+-- a reading that is refused leaves the moment as it was
+abbrev pub told_by : Asking → Way → Machine → ℤ → Result Message RequestError → Told
+told_by asking way m now (Ok message) = told_of way (step asking way m message now)
+told_by asking way m now (Err e) = record { reply = refused (request_cause e); stepped = m; after = unit way m; wrote = false }
+
+unfoldable pub message_told : Asking → Way → Machine → ℤ → List ℕ → List ℕ → List ℕ → Told
+message_told asking way m now method target body = told_by asking way m now (request_of method target body)

@@ -1,0 +1,26 @@
+//! The laws that tie a plain machine to what is seen of it, for crates above.
+ghost use Rattle.tsds_service.specs.Laws.{SamplesStay, SeenAgain, StepsRefine, UnitsRefine};
+
+use stream_catalog::{changes_go_through, indices_are_sound, seen_again, tests_stay};
+
+/// What is seen of a sound machine is sound, and seen again itself.
+pub fn machines_are_seen()
+    ensures { SeenAgain }
+{
+    seen_again();
+}
+
+/// What is seen of a machine offers the rows that the machine offers, so a question has one answer.
+pub fn samples_stay()
+    ensures { SamplesStay }
+{}
+
+/// The step of what is seen of a sound machine is what is seen of its step, and has the same reply; so is its unit.
+pub fn steps_refine()
+    ensures steps { StepsRefine }
+    ensures units { UnitsRefine }
+{
+    tests_stay();
+    indices_are_sound();
+    changes_go_through();
+}

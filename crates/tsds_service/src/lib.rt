@@ -1,0 +1,8 @@
+//! What the store answers: the machine that a script or a link speaks to, as definitions, and the structs that they cite.
+#![tactic(auto)]
+
+mod laws;
+mod reply;
+
+pub use laws::{machines_are_seen, samples_stay, steps_refine};
+pub use reply::Reply;
