@@ -1,5 +1,5 @@
 -- The lifecycle that a body is.
-use Rattle.std.specs.Prelude.{◌∷◌, [], List, ℕ, codes, if◌then◌else◌, Option, None, Some, option_and_then}
+use Rattle.std.specs.Prelude.{◌∷◌, [], List, codes, if◌then◌else◌, Option, None, Some, option_and_then}
 use Rattle.std.specs.Option.{option_map}
 use Rattle.serde_json.specs.Data.{Data, null, boolean, number, string, array, object, Items, no_items, item}
 use Rattle.serde_json.specs.Find.{as_str, get}

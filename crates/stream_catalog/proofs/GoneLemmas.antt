@@ -108,10 +108,10 @@ pub stream_deletions_keep_sound : StreamDeletionsKeepSound
 stream_deletions_keep_sound c name sound = by_found (stream_named name c.streams) refl
   where
     by_found : (o : Option PlainStream) → stream_named name c.streams ≡ o → IsSoundCatalog (with_found o c (λ s. record c {
-        streams = without stream_name name c.streams;
-        indices = filter (λ i. not (has_member s i.facts.name)) c.indices;
-        tasks = filter (λ t. not (has_member s t.index)) c.tasks;
-      }))
+      streams = without stream_name name c.streams;
+      indices = filter (λ i. not (has_member s i.facts.name)) c.indices;
+      tasks = filter (λ t. not (has_member s t.index)) c.tasks;
+    }))
     by_found None found = sound
     by_found (Some s) found =
         let f = facts_of c in

@@ -82,13 +82,13 @@ fields_one : (p : List ℕ) (fs : List Field) → FieldsAscendAfter p fs → Fie
 fields_one p [] ascend f g in_f in_g same = absurd in_f
 fields_one p (x ∷ xs) ascend f g in_f in_g same = elim in_f [
   | inl f_is ↦ elim in_g [
-      | inl g_is ↦ f_is ∙ sym g_is
-      | inr later ↦ absurd (before_other x.path g.path (in_after x.path g xs ascend.1 later) (sym (ap (λ (y : Field). y.path) f_is) ∙ same))
-    ]
+    | inl g_is ↦ f_is ∙ sym g_is
+    | inr later ↦ absurd (before_other x.path g.path (in_after x.path g xs ascend.1 later) (sym (ap (λ (y : Field). y.path) f_is) ∙ same))
+  ]
   | inr f_later ↦ elim in_g [
-      | inl g_is ↦ absurd (before_other x.path f.path (in_after x.path f xs ascend.1 f_later) (sym (ap (λ (y : Field). y.path) g_is) ∙ sym same))
-      | inr g_later ↦ fields_one x.path xs ascend.1 f g f_later g_later same
-    ]
+    | inl g_is ↦ absurd (before_other x.path f.path (in_after x.path f xs ascend.1 f_later) (sym (ap (λ (y : Field). y.path) g_is) ∙ sym same))
+    | inr g_later ↦ fields_one x.path xs ascend.1 f g f_later g_later same
+  ]
 ]
 
 turned : (a b : Form) → Agrees a b → Agrees b a
@@ -98,7 +98,7 @@ pub suits_new : (f : PlainFacts) (t : Template) → template_named t.name f.temp
 suits_new f t found sound =
     let is = each_found template_name IsTemplate t.name f.templates t found sound.templates in
     let with_all = Each-weaker (λ a. Each (Agrees a) (map template_form f.templates)) (λ a. Agrees a (template_form t))
-        (λ a all. each_found template_name (λ u. Agrees a (template_form u)) t.name f.templates t found (each_of_map template_form (Agrees a) f.templates all)) (map form_of f.indices) sound.templates_agree in
+    (λ a all. each_found template_name (λ u. Agrees a (template_form u)) t.name f.templates t found (each_of_map template_form (Agrees a) f.templates all)) (map form_of f.indices) sound.templates_agree in
     let one : FieldsAgree t.schema.fields t.schema.fields = fields_one [] t.schema.fields is.schema.mapped.ascending in
     record {
       itself = λ same. one;
@@ -212,7 +212,7 @@ created_facts f name now t is_now found is may sound =
     let with_index = record f { indices = js } in
     let ss = inserted stream_name s f.streams in
     let held = new_held f (first_name name now) t (first_start now t) (end_after now t.look_ahead) found is
-        (first_begins now t.look_back is_now is.range.look_back) (ends_is (now +ℤ t.look_ahead)) (first_opens now t.look_back t.look_ahead is_now is.range.look_back is.range.look_ahead) in
+    (first_begins now t.look_back is_now is.range.look_back) (ends_is (now +ℤ t.look_ahead)) (first_opens now t.look_back t.look_ahead is_now is.range.look_back is.range.look_ahead) in
     let grown = added_sound f j.facts may.index_free held (suits_new f t found sound) may.indices sound in
     let names = map stream_name f.streams in
     let indices = map facts_name f.indices in

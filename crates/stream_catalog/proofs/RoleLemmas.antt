@@ -99,4 +99,3 @@ same_role-is Label Dimension is = cc
 same_role-is Label Gauge is = cc
 same_role-is Label Counter is = cc
 same_role-is Label Label is = refl
-

@@ -93,7 +93,7 @@ pub record MayRoll (f : PlainFacts) (s : PlainStream) (w : HeldIndex) (now : ℤ
 may_roll : (f : PlainFacts) (name : List ℕ) (now : ℤ) (s : PlainStream) (w : HeldIndex) → stream_named name f.streams ≡ Some s → facts_named (write_name s) f.indices ≡ Some w → rollover_refusal f name now ≡ None → MayRoll f s w now
 may_roll f name now s w found there none =
     let of_stream : on_found (facts_named (write_name s) f.indices) (NoSuchName (write_name s)) (λ v. first_of (roll_tests f now s v)) ≡ None =
-        sym (ap (λ o. on_found o (NoSuchName name) (λ (z : PlainStream). on_found (facts_named (write_name z) f.indices) (NoSuchName (write_name z)) (λ v. first_of (roll_tests f now z v)))) found) ∙ none in
+    sym (ap (λ o. on_found o (NoSuchName name) (λ (z : PlainStream). on_found (facts_named (write_name z) f.indices) (NoSuchName (write_name z)) (λ v. first_of (roll_tests f now z v)))) found) ∙ none in
     let of_index : first_of (roll_tests f now s w) ≡ None = sym (ap (λ o. on_found o (NoSuchName (write_name s)) (λ (v : HeldIndex). first_of (roll_tests f now s v))) there) ∙ of_stream in
     let fourth : List (Option CatalogError) = when (is_taken (next_name s now) f) (NameTaken (next_name s now)) ∷ [] in
     let third : List (Option CatalogError) = when (nat_le most_indices (length f.indices)) (Limit Indices) ∷ fourth in

@@ -61,7 +61,7 @@ same_field f g path other = by_tests (same_kind f.kind g.kind) (same_role f.role
     made path kind role = record { path = path; kind = kind; role = role }
 
     by_tests : (a b : Bool) → same_kind f.kind g.kind ≡ a → same_role f.role g.role ≡ b → not (a && b) ≡ false → g ≡ f
-    by_tests true true kind role is = 
+    by_tests true true kind role is =
         ap (λ p. made p g.kind g.role) path ∙ (ap (λ k. made f.path k g.role) (sym (same_kind-is f.kind g.kind kind)) ∙ ap (λ r. made f.path f.kind r) (sym (same_role-is f.role g.role role)))
     by_tests true false kind role is = cc
     by_tests false b kind role is = cc
@@ -132,7 +132,12 @@ templates_keep_sound c t is_template sound none =
         templates = each_inserted template_name IsTemplate t left is_template (Each-filter IsTemplate test f.templates sound.facts.templates);
         indices = Each-weaker (IsHeld f) (IsHeld new) (λ i is. record { begins = is.begins; ends = is.ends; some = is.some; mapping = is.mapping; kind = is.kind; template = there_still f.templates t i.template is.template }) f.indices sound.facts.indices;
         streams = Each-weaker (IsStream f) (IsStream new) (λ s is. record {
-          generation = is.generation; life = is.life; template = there_still f.templates t s.facts.template is.template; some = is.some; members = is.members; windows = is.windows;
+          generation = is.generation;
+          life = is.life;
+          template = there_still f.templates t s.facts.template is.template;
+          some = is.some;
+          members = is.members;
+          windows = is.windows;
         }) f.streams sound.facts.streams;
         tasks = sound.facts.tasks;
         indices_agree = sound.facts.indices_agree;

@@ -17,7 +17,7 @@ use Rattle.series_id.specs.Keys.{keyed}
 use Rattle.series_id.specs.declared.keys.KeyError.{KeyError}
 use Rattle.series_id.specs.declared.keys.KeyError.TheVariants.{NoRouting, KeyTooLong, NoMemory}
 use Rattle.stream_catalog.specs.Lists.{with_found, stream_named, index_named}
-use Rattle.stream_catalog.specs.Plain.{PlainIndex, PlainCatalog, facts_of}
+use Rattle.stream_catalog.specs.Plain.{PlainIndex, PlainStream, PlainCatalog, facts_of}
 use Rattle.stream_catalog.specs.Puts.{is_full, member_at, put_into}
 use Rattle.stream_catalog.specs.Ways.{Way}
 use Rattle.synthetic_source.specs.Document.{document_cells}
@@ -65,12 +65,15 @@ abbrev pub by_time : Option DocKind → ℤ → (ℤ → Outcome) → Outcome
 by_time (Some kind) time later = barred (bad_time kind)
 by_time None time later = later time
 
+-- what comes of a document of a stream
+abbrev pub by_document : PlainCatalog → PlainStream → Data → Outcome
+by_document c s d = by_time (time_fault d) (unwrap_or (time_of d) (pos 0)) (λ time. by_window c time d (member_at (facts_of c) time s))
+
 -- a stream has the name, and the source is an object
 abbrev pub by_stream : PlainCatalog → List ℕ → Option (List ℕ) → Outcome
 by_stream c name source =
     with_found (stream_named name c.streams) (barred (no_stream name)) (λ s.
-    with_found (option_and_then object_of source) (barred no_object) (λ d.
-    by_time (time_fault d) (unwrap_or (time_of d) (pos 0)) (λ time. by_window c time d (member_at (facts_of c) time s))))
+    with_found (option_and_then object_of source) (barred no_object) (by_document c s))
 
 -- what comes of an item: streams take new documents alone
 abbrev pub by_action : PlainCatalog → Action → List ℕ → Option (List ℕ) → Outcome

@@ -7,3 +7,4 @@ pub mod Replies
 pub mod Step
 pub mod Messages
 pub mod Laws
+pub mod Examples
