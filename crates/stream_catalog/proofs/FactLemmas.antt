@@ -69,24 +69,9 @@ module _ (old new : List HeldIndex) (same : (m : List ℕ) → WindowAt (facts_n
             (same_windows s.facts.members (subst (λ js. WindowsFollow (map (λ m. facts_named m js) s.facts.members)) is_old is.windows));
       }) ss each
 
--- ---- one index's facts changed, but for names, templates, windows, mappings and intervals
+-- ---- one index's facts changed, but for names, templates and mappings
 
-module _ (n : List ℕ) (g : HeldIndex → HeldIndex)
-    (name : (i : HeldIndex) → (g i).name ≡ i.name) (same : (i : HeldIndex) → window (g i) ≡ window i)
-    (form : (i : HeldIndex) → form_of (g i) ≡ form_of i) where
-  windows_stay : (is : List HeldIndex) (m : List ℕ) → WindowAt (facts_named m is) (facts_named m (updated facts_name n g is))
-  windows_stay is m = by_test (bytes_eq n m) refl
-    where
-      by_found : (o : Option HeldIndex) → option_map window (option_map g o) ≡ option_map window o
-      by_found None = refl
-      by_found (Some i) = ap (λ (w : Window). Some w) (same i)
-
-      by_test : (b : Bool) → bytes_eq n m ≡ b → WindowAt (facts_named m is) (facts_named m (updated facts_name n g is))
-      by_test true here =
-          subst (λ k. WindowAt (facts_named k is) (facts_named k (updated facts_name n g is))) ((bytes_eq-Decides n m).0 here)
-          (at_of (facts_named n is) (facts_named n (updated facts_name n g is)) (ap (option_map window) (named_updated_here facts_name n g is name) ∙ by_found (facts_named n is)))
-      by_test false other = at_of (facts_named m is) (facts_named m (updated facts_name n g is)) (ap (option_map window) (named_updated facts_name n m g is name other))
-
+module _ (n : List ℕ) (g : HeldIndex → HeldIndex) (name : (i : HeldIndex) → (g i).name ≡ i.name) (form : (i : HeldIndex) → form_of (g i) ≡ form_of i) where
   forms_stay : (is : List HeldIndex) → map form_of (updated facts_name n g is) ≡ map form_of is
   forms_stay [] = refl
   forms_stay (i ∷ is) = by_test (bytes_eq i.name n) (forms_stay is)
@@ -95,10 +80,11 @@ module _ (n : List ℕ) (g : HeldIndex → HeldIndex)
       by_test true later = ap (λ x. x ∷ map form_of is) (form i)
       by_test false later = ap (λ xs. form_of i ∷ xs) later
 
-  pub changed_sound : (f : PlainFacts) → ((i : HeldIndex) → facts_named n f.indices ≡ Some i → IsHeld f i → IsHeld f (g i)) →
+  pub changed_facts : (f : PlainFacts) → ((i : HeldIndex) → facts_named n f.indices ≡ Some i → IsHeld f i → IsHeld f (g i)) →
       ((by : Interval) (rises : Bool) (i : HeldIndex) → IsTaskOf by rises (Some i) → IsTaskOf by rises (Some (g i))) →
+      Each (IsStream (record f { indices = updated facts_name n g f.indices })) f.streams →
       AreFactsSound f → AreFactsSound (record f { indices = updated facts_name n g f.indices })
-  changed_sound f held task sound =
+  changed_facts f held task streams sound =
       let new = record f { indices = updated facts_name n g f.indices } in
       let names : map facts_name (updated facts_name n g f.indices) ≡ map facts_name f.indices = names_updated facts_name n g f.indices name in
       let forms = forms_stay f.indices in
@@ -106,7 +92,7 @@ module _ (n : List ℕ) (g : HeldIndex → HeldIndex)
         templates = sound.templates;
         indices = Each-weaker (IsHeld f) (IsHeld new) (λ i is. record { begins = is.begins; ends = is.ends; some = is.some; mapping = is.mapping; kind = is.kind; template = is.template }) (updated facts_name n g f.indices)
             (each_updated facts_name (IsHeld f) n g f.indices (λ i found. held i found (each_found facts_name (IsHeld f) n f.indices i found sound.indices)) sound.indices);
-        streams = same_streams f.indices (updated facts_name n g f.indices) (windows_stay f.indices) f new refl refl refl f.streams sound.streams;
+        streams = streams;
         tasks = Each-weaker (λ t. IsTaskOf t.by t.rises (facts_named t.index f.indices)) (λ t. IsTaskOf t.by t.rises (facts_named t.index (updated facts_name n g f.indices)))
             (λ t is. task_stays t (bytes_eq n t.index) refl is) f.tasks sound.tasks;
         indices_agree = subst (λ fs. AllAgree fs fs) (sym forms) sound.indices_agree;
@@ -132,3 +118,28 @@ module _ (n : List ℕ) (g : HeldIndex → HeldIndex)
           (subst (IsTaskOf t.by t.rises) (sym (named_updated_here facts_name n g f.indices name))
           (by_found t.by t.rises (facts_named n f.indices) (subst (λ k. IsTaskOf t.by t.rises (facts_named k f.indices)) (sym ((bytes_eq-Decides n t.index).0 here)) is)))
       task_stays t false other is = subst (IsTaskOf t.by t.rises) (sym (named_updated facts_name n t.index g f.indices name other)) is
+
+-- ---- windows stay too
+
+module _ (n : List ℕ) (g : HeldIndex → HeldIndex)
+    (name : (i : HeldIndex) → (g i).name ≡ i.name) (same : (i : HeldIndex) → window (g i) ≡ window i)
+    (form : (i : HeldIndex) → form_of (g i) ≡ form_of i) where
+  windows_stay : (is : List HeldIndex) (m : List ℕ) → WindowAt (facts_named m is) (facts_named m (updated facts_name n g is))
+  windows_stay is m = by_test (bytes_eq n m) refl
+    where
+      by_found : (o : Option HeldIndex) → option_map window (option_map g o) ≡ option_map window o
+      by_found None = refl
+      by_found (Some i) = ap (λ (w : Window). Some w) (same i)
+
+      by_test : (b : Bool) → bytes_eq n m ≡ b → WindowAt (facts_named m is) (facts_named m (updated facts_name n g is))
+      by_test true here =
+          subst (λ k. WindowAt (facts_named k is) (facts_named k (updated facts_name n g is))) ((bytes_eq-Decides n m).0 here)
+          (at_of (facts_named n is) (facts_named n (updated facts_name n g is)) (ap (option_map window) (named_updated_here facts_name n g is name) ∙ by_found (facts_named n is)))
+      by_test false other = at_of (facts_named m is) (facts_named m (updated facts_name n g is)) (ap (option_map window) (named_updated facts_name n m g is name other))
+
+  pub changed_sound : (f : PlainFacts) → ((i : HeldIndex) → facts_named n f.indices ≡ Some i → IsHeld f i → IsHeld f (g i)) →
+      ((by : Interval) (rises : Bool) (i : HeldIndex) → IsTaskOf by rises (Some i) → IsTaskOf by rises (Some (g i))) →
+      AreFactsSound f → AreFactsSound (record f { indices = updated facts_name n g f.indices })
+  changed_sound f held task sound =
+      changed_facts n g name form f held task
+      (same_streams f.indices (updated facts_name n g f.indices) (windows_stay f.indices) f (record f { indices = updated facts_name n g f.indices }) refl refl refl f.streams sound.streams) sound

@@ -53,7 +53,7 @@ members-filter test n (s ∷ ss) = by_test (test s) (members-filter test n ss)
     by_test false later = let all = times-append n s.facts.members (all_members ss) in omega (arith, all, later)
 
 -- the members of a stream, and of those that are left without it
-members_apart : (n name : List ℕ) (ss : List PlainStream) (s : PlainStream) → stream_named name ss ≡ Some s → times n s.facts.members + times n (all_members (without stream_name name ss)) ≤ times n (all_members ss)
+pub members_apart : (n name : List ℕ) (ss : List PlainStream) (s : PlainStream) → stream_named name ss ≡ Some s → times n s.facts.members + times n (all_members (without stream_name name ss)) ≤ times n (all_members ss)
 members_apart n name [] s found = absurd (none_not_some found)
 members_apart n name (x ∷ xs) s found = by_test (bytes_eq x.facts.name name) found (members_apart n name xs s)
   where
@@ -72,7 +72,7 @@ members_apart n name (x ∷ xs) s found = by_test (bytes_eq x.facts.name name) f
         omega (arith, less, some, all)
 
 -- each element is counted
-counted_all : (ms : List (List ℕ)) → Each (λ m. 1 ≤ times m ms) ms
+pub counted_all : (ms : List (List ℕ)) → Each (λ m. 1 ≤ times m ms) ms
 counted_all [] = tt
 counted_all (x ∷ xs) = (here (bytes_eq x x) (bytes_eq-itself x), Each-weaker (λ m. 1 ≤ times m xs) (λ m. 1 ≤ times m (x ∷ xs)) (λ m some. more (bytes_eq x m) (times m xs) some) xs (counted_all xs))
   where

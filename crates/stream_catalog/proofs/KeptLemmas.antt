@@ -110,7 +110,7 @@ module _ (is : List HeldIndex) (some : HaveTime is) where
 
 -- ---- a stream with a member less, which isn't its write index
 
-last_kept : (n : List ℕ) (ms : List (List ℕ)) → 0 < length ms → bytes_eq (with_found (last_of ms) [] (λ k. k)) n ≡ false → 0 < length (filter (λ m. not (bytes_eq m n)) ms)
+pub last_kept : (n : List ℕ) (ms : List (List ℕ)) → 0 < length ms → bytes_eq (with_found (last_of ms) [] (λ k. k)) n ≡ false → 0 < length (filter (λ m. not (bytes_eq m n)) ms)
 last_kept n [] some other = absurd (omega (arith, some))
 last_kept n (m ∷ []) some other = by_test (bytes_eq m n) other
   where

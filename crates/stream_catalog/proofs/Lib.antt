@@ -22,3 +22,5 @@ mod WindowLemmas
 mod NewLemmas
 mod RollLemmas
 mod MoveLemmas
+mod RunLemmas
+mod PlanLemmas

@@ -47,10 +47,10 @@ before_other a b before same =
     less_greater : Less ≡ Greater → ⊥
     less_greater e = cc
 
-before_apart : (a b : List ℕ) → IsBefore a b → bytes_eq a b ≡ false
+pub before_apart : (a b : List ℕ) → IsBefore a b → bytes_eq a b ≡ false
 before_apart a b before = false_from_ne_true (bytes_eq a b) (λ is. before_other a b before ((bytes_eq-Decides a b).0 is))
 
-all_found : {A : Type 0} (name : A → List ℕ) (xs : List A) → KeysAscend (map name xs) → Each (λ x. named name (name x) xs ≡ Some x) xs
+pub all_found : {A : Type 0} (name : A → List ℕ) (xs : List A) → KeysAscend (map name xs) → Each (λ x. named name (name x) xs ≡ Some x) xs
 all_found name [] ascend = tt
 all_found name (x ∷ xs) ascend = (
   ap (λ b. if b then Some x else named name (name x) xs) (bytes_eq-itself (name x)),

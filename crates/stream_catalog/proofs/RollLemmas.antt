@@ -37,7 +37,7 @@ use Rattle.stream_catalog.proofs.WindowLemmas.{ends_is, next_opens}
 
 -- ---- a member more behind the last one
 
-each_end : {A : Type 0} (P : A → Type 0) (xs : List A) (x : A) → Each P xs → P x → Each P (xs ++ x ∷ [])
+pub each_end : {A : Type 0} (P : A → Type 0) (xs : List A) (x : A) → Each P xs → P x → Each P (xs ++ x ∷ [])
 each_end P [] x each here = (here, tt)
 each_end P (y ∷ ys) x each here = (each.0, each_end P ys x each.1 here)
 

@@ -156,6 +156,9 @@ RolloversKeepSound = (c : PlainCatalog) (name : List ℕ) (now : ℤ) → IsInst
 abbrev pub MovesKeepSound : Type 0
 MovesKeepSound = (c : PlainCatalog) (moves : List Move) → IsSoundCatalog c → moves_refusal (facts_of c) moves ≡ None → IsSoundCatalog (moved_all c moves)
 
+abbrev pub RunsKeepSound : Type 0
+RunsKeepSound = (c : PlainCatalog) (now : ℤ) → IsSoundCatalog c → IsSoundCatalog (lifecycle_run c now).catalog
+
 -- ---- what the code keeps
 
 -- a change that goes through seeing, and keeps a catalogue sound

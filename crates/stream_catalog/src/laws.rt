@@ -1,6 +1,6 @@
 //! The laws that tie a plain catalogue to what is seen of it, for crates above.
 ghost use Rattle.stream_catalog.specs.Laws.{FoundIsSound, Keeps, LookupsStay, PutsKeepShowing, SoundShows, SeenAgain, FactsStay, ChangesGoThrough, RunsGoThrough, PutsGoThrough, RowTestsStay, SeriesStay, DownsamplesGoThrough, UnitsGoThrough, TasksKeep, ShownRows};
-ghost use Rattle.stream_catalog.specs.Laws.{BlocksKeepSound, CreationsKeepSound, DeletionsKeepSound, DownsamplesKeepSound, LivesKeepSound, MovesKeepSound, PutsKeepSound, RolloversKeepSound, StreamDeletionsKeepSound, TemplatesKeepSound, UnitsKeepSound};
+ghost use Rattle.stream_catalog.specs.Laws.{BlocksKeepSound, CreationsKeepSound, DeletionsKeepSound, DownsamplesKeepSound, LivesKeepSound, MovesKeepSound, PutsKeepSound, RolloversKeepSound, RunsKeepSound, StreamDeletionsKeepSound, TemplatesKeepSound, UnitsKeepSound};
 
 /// What is seen of a sound catalogue is sound, and seen again itself.
 pub fn seen_again()
@@ -55,6 +55,7 @@ pub fn changes_keep_sound()
     ensures creations { CreationsKeepSound }
     ensures rollovers { RolloversKeepSound }
     ensures moves { MovesKeepSound }
+    ensures runs { RunsKeepSound }
 {}
 
 /// The rows of an index that is seen again itself fit its schema, in order, and are few.

@@ -8,6 +8,7 @@ use Rattle.stream_catalog.proofs.TemplateLemmas.{templates_keep_sound}
 use Rattle.stream_catalog.proofs.NewLemmas.{creations_keep_sound}
 use Rattle.stream_catalog.proofs.RollLemmas.{rollovers_keep_sound}
 use Rattle.stream_catalog.proofs.MoveLemmas.{moves_keep_sound}
+use Rattle.stream_catalog.proofs.PlanLemmas.{runs_keep_sound}
 use Rattle.stream_catalog.proofs.laws.changes_keep_sound.Goals as goal
 
 pub returns-clause-puts : goal.returns-clause-puts
@@ -42,3 +43,6 @@ returns-clause-rollovers c = rollovers_keep_sound
 
 pub returns-clause-moves : goal.returns-clause-moves
 returns-clause-moves c = moves_keep_sound
+
+pub returns-clause-runs : goal.returns-clause-runs
+returns-clause-runs c = runs_keep_sound
