@@ -32,8 +32,8 @@ use Rattle.tsds_service.specs.Bodies.{fixed_interval_of, moves_of}
 use Rattle.tsds_service.specs.Bulk.{outcomes_of, after_items, bulk_reply}
 use Rattle.tsds_service.specs.Causes as cause
 use Rattle.tsds_service.specs.Causes.{Cause, refused}
-use Rattle.tsds_service.specs.Laws.{StepsRefine, UnitsRefine}
-use Rattle.tsds_service.specs.Machine.{Machine, see}
+use Rattle.tsds_service.specs.Laws.{StepsRefine, StepsStand, UnitsRefine, UnitsStand}
+use Rattle.tsds_service.specs.Machine.{Machine, see, unit}
 use Rattle.tsds_service.specs.Questions.{Asking, facts_in, samples_of, members_of, target_of, get_reply}
 use Rattle.tsds_service.specs.Replies.{ack, stream_reply, rolled_reply, blocked_reply, ran_reply, series_count, task_tree, tasks_listed}
 use Rattle.tsds_service.specs.Step as spec
@@ -236,3 +236,9 @@ steps_refine laws asking m message now sound = step_of-see laws (record m { now 
 
 pub units_refine : CatalogLaws → UnitsRefine
 units_refine laws m sound = ap (λ c. record (see m) { catalog = c }) (sym (laws.units m.catalog sound.catalog))
+
+pub steps_stand : CatalogLaws → StepsStand
+steps_stand laws asking m message now seen = ap (λ x. step asking seen_way x message now) (sym seen.again) ∙ steps_refine laws asking m message now seen.sound
+
+pub units_stand : CatalogLaws → UnitsStand
+units_stand laws m seen = ap (unit seen_way) (sym seen.again) ∙ units_refine laws m seen.sound

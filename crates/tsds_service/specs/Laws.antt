@@ -21,3 +21,10 @@ StepsRefine = (asking : Asking) (m : Machine) (message : Message) (now : ℤ) �
 
 abbrev pub UnitsRefine : Type 0
 UnitsRefine = (m : Machine) → IsSound m → unit seen_way (see m) ≡ see (unit plain_way m)
+
+-- what code holds stands for itself too: its step is what is seen of the plain step, and so is its unit
+abbrev pub StepsStand : Type 0
+StepsStand = (asking : Asking) (m : Machine) (message : Message) (now : ℤ) → IsSeen m → step asking seen_way m message now ≡ see_stepped (step asking plain_way m message now)
+
+abbrev pub UnitsStand : Type 0
+UnitsStand = (m : Machine) → IsSeen m → unit seen_way m ≡ see (unit plain_way m)

@@ -1,5 +1,5 @@
 //! The laws that tie a plain machine to what is seen of it, for crates above.
-ghost use Rattle.tsds_service.specs.Laws.{SamplesStay, SeenAgain, StepsRefine, UnitsRefine};
+ghost use Rattle.tsds_service.specs.Laws.{SamplesStay, SeenAgain, StepsRefine, StepsStand, UnitsRefine, UnitsStand};
 
 use stream_catalog::{changes_go_through, indices_are_sound, seen_again, tests_stay};
 
@@ -19,6 +19,16 @@ pub fn samples_stay()
 pub fn steps_refine()
     ensures steps { StepsRefine }
     ensures units { UnitsRefine }
+{
+    tests_stay();
+    indices_are_sound();
+    changes_go_through();
+}
+
+/// The step of what code holds is what is seen of the plain step, and so is its unit.
+pub fn steps_stand()
+    ensures steps { StepsStand }
+    ensures units { UnitsStand }
 {
     tests_stay();
     indices_are_sound();

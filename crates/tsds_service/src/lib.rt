@@ -4,5 +4,5 @@
 mod laws;
 mod reply;
 
-pub use laws::{machines_are_seen, samples_stay, steps_refine};
+pub use laws::{machines_are_seen, samples_stay, steps_refine, steps_stand};
 pub use reply::Reply;
