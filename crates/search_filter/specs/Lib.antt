@@ -1,0 +1,4 @@
+pub mod Matching
+pub mod Seen
+pub mod ValueLaws
+pub mod Values
