@@ -1,4 +1,7 @@
+pub mod FaultLaws
+pub mod Faults
 pub mod Matching
+pub mod Reading
 pub mod Seen
 pub mod ValueLaws
 pub mod Values

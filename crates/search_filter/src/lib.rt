@@ -1,10 +1,18 @@
 //! Queries of searches: which rows they take.
 #![tactic(auto)]
 
+mod clauses;
+mod faults;
+mod leaves;
 mod matching;
+mod places;
 mod query;
+mod ranges;
+mod reading;
+mod terms;
 mod values;
 
 pub use matching::matches;
 pub use query::{Bound, Query};
+pub use reading::{QueryError, read_query};
 pub use values::{Held, held_at, value_order, values_are_ordered};
