@@ -1,0 +1,71 @@
+-- The first hits with one more.
+use Rattle.std.specs.Prelude.{◌≡◌, ℕ, ℤ, zero, suc, ◌≤◌, nat_le, Bool, true, false, not, List, [], ◌∷◌, length, take, Option, Some, None, if◌then◌else◌}
+use Rattle.std.specs.List.{insert, slice_get}
+use Rattle.std.specs.Ordering.{is_le}
+use Rattle.std.proofs.Common.{refl, ap, ◌∙◌, sym, subst}
+use Rattle.std.proofs.lemmas.Bool.{leb-true}
+use Rattle.row_cells.specs.declared.scalars.Scalar.{Scalar}
+use Rattle.hits_page.specs.Hits.{hit_cmp, is_before, is_before_hit, is_behind, is_behind_hit, place_of}
+use Rattle.hits_page.specs.PageLaws.{hit_total}
+use Rattle.hits_page.specs.Pages.{Stands, best_with}
+use Rattle.hits_page.specs.Sorted.{put, sorted}
+use Rattle.hits_page.specs.SortLaws.{Ascend, Before, Behind, BehindFront, put_at, sorted_ascends, take_ascends, take_insert, take_put}
+use Rattle.hits_page.specs.declared.hits.Hit.{Hit}
+use Rattle.hits_page.specs.declared.pager.Pager.{Pager}
+use Rattle.hits_page.specs.declared.sort_keys.SortKey.{SortKey}
+
+not_true : (b : Bool) → not b ≡ true → b ≡ false
+not_true false is = refl
+not_true true is = cc
+
+take_twice : {X : Type 0} (n : ℕ) (xs : List X) → take n (take n xs) ≡ take n xs
+take_twice zero xs = refl
+take_twice (suc n) [] = refl
+take_twice (suc n) (x ∷ xs) = ap (λ ys. x ∷ ys) (take_twice n xs)
+
+module _ (keys : List SortKey) (x : Hit) where
+  behind_hit : (o : Option Hit) → is_behind_hit keys (place_of x) o ≡ true → Behind (hit_cmp keys) (hit_total keys) x o
+  behind_hit None is = tt
+  behind_hit (Some y) is = not_true (is_le (hit_cmp keys x y)) is
+
+  behind_front : (hits : List Hit) (at : ℕ) → is_behind keys (place_of x) hits at ≡ true → BehindFront (hit_cmp keys) (hit_total keys) x hits at
+  behind_front hits zero is = tt
+  behind_front hits (suc k) is = behind_hit (slice_get hits k) is
+
+  before_hit : (o : Option Hit) → is_before_hit keys (place_of x) o ≡ true → Before (hit_cmp keys) (hit_total keys) x o
+  before_hit None is = tt
+  before_hit (Some y) is = is
+
+  pub kept : (limit at : ℕ) (best new offered : List Hit) → best ≡ take limit (sorted (hit_cmp keys) offered) → at ≤ length best →
+      is_behind keys (place_of x) best at ≡ true → is_before keys (place_of x) best at ≡ true → new ≡ best_with limit at x best →
+      new ≡ take limit (sorted (hit_cmp keys) (x ∷ offered))
+  kept limit at best new offered first within behind before is = is ∙ (by_limit (nat_le limit at) refl ∙ (ap (take limit) (sym placed) ∙ sym fewer))
+    where
+      ascends : Ascend (hit_cmp keys) (hit_total keys) best
+      ascends = subst (Ascend (hit_cmp keys) (hit_total keys)) (sym first) (take_ascends (hit_cmp keys) (hit_total keys) limit (sorted (hit_cmp keys) offered) (sorted_ascends (hit_cmp keys) (hit_total keys) offered))
+
+      placed : put (hit_cmp keys) x best ≡ insert best at x
+      placed = put_at (hit_cmp keys) (hit_total keys) x best at ascends within (behind_front best at behind) (before_hit (slice_get best at) before)
+
+      fewer : take limit (sorted (hit_cmp keys) (x ∷ offered)) ≡ take limit (put (hit_cmp keys) x best)
+      fewer = take_put (hit_cmp keys) (hit_total keys) limit x (sorted (hit_cmp keys) offered) ∙ ap (λ hits. take limit (put (hit_cmp keys) x hits)) (sym first)
+
+      short : take limit best ≡ best
+      short = ap (take limit) first ∙ (take_twice limit (sorted (hit_cmp keys) offered) ∙ sym first)
+
+      by_limit : (b : Bool) → nat_le limit at ≡ b → (if b then best else take limit (insert best at x)) ≡ take limit (insert best at x)
+      by_limit true late = sym (take_insert (hit_cmp keys) (hit_total keys) limit x best at (leb-true limit at late) within ∙ short)
+      by_limit false early = refl
+
+same_test : {K S H : Type 0} (f : K → S → H → ℤ → Bool) (k l : K) (s t : S) (h g : H) (i j : ℤ) → k ≡ l → s ≡ t → h ≡ g → i ≡ j → f l t g j ≡ f k s h i
+same_test f k l s t h g i j p q r e = cc
+
+-- a row that was offered, by what the search for its place was handed
+pub offered_one : (p : Pager) (x : Hit) (at : ℕ) (new offered hits : List Hit) (keys : List SortKey) (sort : List (Option Scalar)) (start : ℤ) → keys ≡ p.keys → sort ≡ x.picked.sort → hits ≡ p.best.items → start ≡ x.start →
+    at ≤ length hits → is_behind keys (record { sort = sort; row = x.picked.row; start = start }) hits at ≡ true → is_before keys (record { sort = sort; row = x.picked.row; start = start }) hits at ≡ true →
+    new ≡ best_with p.limit at x p.best.items → Stands p offered → new ≡ take p.limit (sorted (hit_cmp p.keys) (x ∷ offered))
+offered_one p x at new offered hits keys sort start keys_are sort_is hits_are start_is within behind before is stands =
+    kept p.keys x p.limit at p.best.items new offered stands.best (subst (λ hs. at ≤ length hs) hits_are within)
+    (same_test (λ ks s hs t. is_behind ks (record { sort = s; row = x.picked.row; start = t }) hs at) keys p.keys sort x.picked.sort hits p.best.items start x.start keys_are sort_is hits_are start_is ∙ behind)
+    (same_test (λ ks s hs t. is_before ks (record { sort = s; row = x.picked.row; start = t }) hs at) keys p.keys sort x.picked.sort hits p.best.items start x.start keys_are sort_is hits_are start_is ∙ before)
+    is

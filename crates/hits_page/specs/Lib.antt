@@ -1,0 +1,5 @@
+pub mod Hits
+pub mod PageLaws
+pub mod Pages
+pub mod Sorted
+pub mod SortLaws

@@ -1,0 +1,12 @@
+//! Pages of hits: the first of many rows by an order, and how many there are.
+#![tactic(auto)]
+
+mod counting;
+mod hits;
+mod order;
+mod pager;
+mod sort_keys;
+
+pub use hits::{Hit, Page, Picked};
+pub use pager::{PageError, Pager};
+pub use sort_keys::SortKey;

@@ -1,0 +1,186 @@
+//! A page gathered from rows that are offered one by one.
+ghost use Rattle.std.specs.Prelude.{◌≡◌, ◌+◌, ◌<◌, ◌≤◌, ◌^◌, [], ◌∷◌, List, map, drop, take, length, IfOk, IfErr, OnOk, OnErr};
+ghost use Rattle.std.specs.List.{insert};
+ghost use Rattle.hits_page.specs.Hits as spec;
+ghost use Rattle.hits_page.specs.Pages.{IsPageCause, Stands, best_with, offered_hit, page_of};
+ghost use Rattle.hits_page.specs.declared.hits.Hit.{Hit};
+
+use crate::counting::one_more;
+use crate::hits::{Hit, Page, Picked, sort_values};
+use crate::order::{PlaceAt, find_place};
+use crate::sort_keys::SortKey;
+use edge_face::{NoMemory, Text};
+use row_cells::{Row, Scalar, Schema, copy_row};
+use sqlite_items::Items;
+use std::alloc::Global;
+use thiserror::Error;
+
+/// Why there is no page, or no order of one.
+#[derive(Debug, Drop, Error)]
+pub enum PageError {
+    #[error("the page ends at hit {asked}, which is over 10,000")]
+    WindowTooLarge { asked: u64 },
+    #[error("no sort by the field {}", path.as_str())]
+    BadSort { path: Text },
+    #[error("the sort has no shape that is known")]
+    Shape,
+    #[error("out of memory")]
+    NoMemory,
+}
+
+/// The last hit that a page may have.
+const DEEPEST: u64 = 10_000;
+
+/// The rows of a page among those offered so far, and how many were offered.
+#[derive(Drop)]
+pub struct Pager {
+    keys: Items<SortKey>,
+    from: usize,
+    size: usize,
+    /// `from + size`
+    limit: usize,
+    total: u64,
+    /// The first hits in order, up to the limit.
+    best: Vec<Hit>,
+}
+
+/// A row with what it is offered with.
+#[derive(Clone, Copy)]
+struct Offer<'a> {
+    index: u32,
+    start: i64,
+    row: &'a Row,
+}
+
+/// Puts a hit at its place, and lets go what is behind the limit.
+fn put_hit(best: &mut Vec<Hit>, at: usize, hit: Hit, limit: usize) -> Result<(), NoMemory>
+    requires { at ≤ length best.old.items }
+    ensures ok { OnOk result (best.new.items ≡ take limit (insert best.old.items at hit)) }
+    ensures err { OnErr result (best.new.items ≡ best.old.items) }
+{
+    match best.insert(at, hit) {
+        Ok(()) => {
+            best.truncate(limit);
+            Ok(())
+        }
+        Err(_) => Err(NoMemory),
+    }
+}
+
+/// Puts a row at its place, where that is before the limit.
+fn keep_row(
+    alloc: Global,
+    best: &mut Vec<Hit>,
+    at: usize,
+    offer: Offer<'_>,
+    sort: Items<Option<Scalar>>,
+    limit: usize,
+) -> Result<(), NoMemory>
+    requires { at ≤ length best.old.items }
+    ensures ok { OnOk result (best.new.items ≡ best_with limit at (offered_hit offer.entry sort) best.old.items) }
+    ensures err { OnErr result (best.new.items ≡ best.old.items) }
+{
+    if limit <= at {
+        return Ok(());
+    }
+    let row = copy_row(alloc, offer.row)?;
+    let picked = Picked {
+        index: offer.index,
+        row,
+        sort,
+    };
+    let hit = Hit {
+        start: offer.start,
+        picked,
+    };
+    put_hit(best, at, hit, limit)
+}
+
+/// The rows of the hits behind the first ones.
+#[tactic(auto, using(crate::proofs::Cutting::drop_one))]
+fn cut(alloc: Global, best: Vec<Hit>, from: usize) -> Result<Items<Picked>, NoMemory>
+    ensures { IfOk result (λ rows. rows ≡ map (λ h. h.picked) (drop from best.items)) }
+{
+    let mut rows = Items::new(alloc);
+    let mut left = from;
+    for hit in best {
+        if left == 0 {
+            rows.push(hit.picked)?;
+        } else {
+            left -= 1;
+        }
+    }
+    Ok(rows)
+}
+
+impl Pager {
+    /// A pager for the hits from one on, and so many, to which nothing was offered.
+    pub fn new(
+        alloc: Global,
+        sort: Items<SortKey>,
+        from: u64,
+        size: u64,
+    ) -> Result<Pager, PageError>
+        requires { from + size < 2 ^ 64 }
+        ensures stands { IfOk result (λ pager. Stands pager []) }
+        ensures asked { IfOk result (λ pager. (pager.keys ≡ sort) × (pager.from ≡ from) × (pager.size ≡ size)) }
+        ensures few { IfOk result (λ pager. from + size ≤ 10000) }
+        ensures err { IfErr result (IsPageCause (from + size)) }
+    {
+        let asked = from + size;
+        if DEEPEST < asked {
+            return Err(PageError::WindowTooLarge { asked });
+        }
+        Ok(Pager {
+            keys: sort,
+            from: from as usize,
+            size: size as usize,
+            limit: asked as usize,
+            total: 0,
+            best: Vec::new(alloc),
+        })
+    }
+
+    /// Keeps a row where it is among the first ones. The row fits a schema with the fields that the sort was read with. After a
+    /// refusal nothing was offered.
+    pub fn offer(
+        &mut self,
+        alloc: Global,
+        index: u32,
+        start: i64,
+        schema: &Schema,
+        row: &Row,
+    ) -> Result<(), NoMemory>
+        ensures taken { OnOk result ((offered : List Hit) → Stands self.old offered
+            → Stands self.new (spec.hit_of self.old.keys schema.now.fields index start row.now ∷ offered)) }
+        ensures kept { OnErr result ((offered : List Hit) → Stands self.old offered → Stands self.new offered) }
+        ensures asked { (self.new.keys ≡ self.old.keys) × (self.new.from ≡ self.old.from) × (self.new.size ≡ self.old.size) }
+    {
+        let total = one_more(self.total)?;
+        let sort = sort_values(alloc, self.keys.as_slice(), schema, row)?;
+        let place = PlaceAt {
+            sort: sort.as_slice(),
+            row,
+            start,
+        };
+        let at = find_place(self.keys.as_slice(), place, self.best.as_slice());
+        let offer = Offer { index, start, row };
+        keep_row(alloc, &mut self.best, at, offer, sort, self.limit)?;
+        self.total = total;
+        Ok(())
+    }
+
+    /// How many rows were offered, and those of the page in order.
+    pub fn finish(self, alloc: Global) -> Result<Page, NoMemory>
+        ensures { IfOk result (λ page. (offered : List Hit) → Stands self offered → page ≡ page_of self.keys self.from self.size offered) }
+    {
+        let Pager {
+            best,
+            from,
+            total,
+            ..
+        } = self;
+        let rows = cut(alloc, best, from)?;
+        Ok(Page { total, rows })
+    }
+}
