@@ -3,3 +3,4 @@ pub mod PageLaws
 pub mod Pages
 pub mod Sorted
 pub mod SortLaws
+pub mod Sorts

@@ -12,3 +12,13 @@ pub fn one_more(count: u64) -> Result<u64, NoMemory>
         None => Err(NoMemory),
     }
 }
+
+/// The place behind another one. More fields than places of 32 bits are taken as want of memory.
+pub fn next_place(at: u32) -> Result<u32, NoMemory>
+    ensures { IfOk result (λ next. next ≡ suc at) }
+{
+    match at.checked_add(1) {
+        Some(next) => Ok(next),
+        None => Err(NoMemory),
+    }
+}

@@ -2,11 +2,14 @@
 #![tactic(auto)]
 
 mod counting;
+mod entries;
 mod hits;
 mod order;
 mod pager;
 mod sort_keys;
+mod sorts;
 
 pub use hits::{Hit, Page, Picked};
 pub use pager::{PageError, Pager};
 pub use sort_keys::SortKey;
+pub use sorts::read_sort;
