@@ -1,3 +1,4 @@
+pub mod AnyOrder
 pub mod Counted
 pub mod Cutting
 pub mod Keeping

@@ -1,5 +1,5 @@
 -- Lists put in order by a total order.
-use Rattle.std.specs.Prelude.{◌≡◌, ℕ, zero, suc, ◌≤◌, ◌<◌, Bool, true, false, List, [], ◌∷◌, length, take, Option, Some, None, if◌then◌else◌}
+use Rattle.std.specs.Prelude.{◌≡◌, ℕ, zero, suc, ◌≤◌, ◌<◌, Bool, true, false, List, [], ◌∷◌, ◌++◌, length, take, Option, Some, None, if◌then◌else◌}
 use Rattle.std.specs.Cmp.{IsTotalOrder}
 use Rattle.std.specs.List.{insert, slice_get}
 use Rattle.std.specs.Ordering.{is_le, ordering_reverse}
@@ -150,3 +150,59 @@ module _ {A : Type 0} (cmp : A → A → Ordering) (total : IsTotalOrder cmp) wh
   take_insert (suc n) x ys zero behind within = absurd (omega (arith, behind))
   take_insert (suc n) x [] (suc at) behind within = absurd (omega (arith, within))
   take_insert (suc n) x (y ∷ ys) (suc at) behind within = ap (λ zs. y ∷ zs) (take_insert n x ys at (omega (arith, behind)) (omega (arith, within)))
+
+  -- ---- elements that the order tells apart
+
+  abbrev pub Told : A → A → Type 0
+  Told x y = cmp x y ≡ Equal → ⊥
+
+  other_by : (x y : A) (o : Ordering) → cmp x y ≡ o → Told x y → is_le o ≡ true → is_le (cmp y x) ≡ false
+  other_by x y Less is told le = ap is_le (total.antisymm y x ∙ ap ordering_reverse is)
+  other_by x y Equal is told le = absurd (told is)
+  other_by x y Greater is told le = cc
+
+  one_way : (x y : A) → Told x y → is_le (cmp x y) ≡ true → is_le (cmp y x) ≡ false
+  one_way x y told le = other_by x y (cmp x y) refl told le
+
+  put_late : (x y : A) (ys : List A) → is_le (cmp x y) ≡ false → put cmp x (y ∷ ys) ≡ y ∷ put cmp x ys
+  put_late x y ys is = rw is refl
+
+  put_first : (x y : A) (ys : List A) → is_le (cmp x y) ≡ true → put cmp x (y ∷ ys) ≡ x ∷ y ∷ ys
+  put_first x y ys is = rw is refl
+
+  pub put_both : (x y : A) (zs : List A) → Told x y → put cmp x (put cmp y zs) ≡ put cmp y (put cmp x zs)
+  put_both x y [] told = by_order (is_le (cmp x y)) refl
+    where
+      by_order : (b : Bool) → is_le (cmp x y) ≡ b → put cmp x (y ∷ []) ≡ put cmp y (x ∷ [])
+      by_order true is = put_first x y [] is ∙ sym (put_late y x [] (one_way x y told is))
+      by_order false is = put_late x y [] is ∙ sym (put_first y x [] (upto_other x y is))
+  put_both x y (z ∷ zs) told = by_both (is_le (cmp x z)) (is_le (cmp y z)) refl refl (put_both x y zs told)
+    where
+      front : (b : Bool) → is_le (cmp x y) ≡ b → is_le (cmp x z) ≡ true → is_le (cmp y z) ≡ true → put cmp x (y ∷ z ∷ zs) ≡ put cmp y (x ∷ z ∷ zs)
+      front true is xz yz = put_first x y (z ∷ zs) is ∙ (ap (λ ws. x ∷ ws) (sym (put_first y z zs yz)) ∙ sym (put_late y x (z ∷ zs) (one_way x y told is)))
+      front false is xz yz = put_late x y (z ∷ zs) is ∙ (ap (λ ws. y ∷ ws) (put_first x z zs xz) ∙ sym (put_first y x (z ∷ zs) (upto_other x y is)))
+
+      by_both : (a b : Bool) → is_le (cmp x z) ≡ a → is_le (cmp y z) ≡ b → put cmp x (put cmp y zs) ≡ put cmp y (put cmp x zs) →
+          put cmp x (put cmp y (z ∷ zs)) ≡ put cmp y (put cmp x (z ∷ zs))
+      by_both true true xz yz later = ap (put cmp x) (put_first y z zs yz) ∙ (front (is_le (cmp x y)) refl xz yz ∙ sym (ap (put cmp y) (put_first x z zs xz)))
+      by_both true false xz yz later =
+          ap (put cmp x) (put_late y z zs yz)
+          ∙ (put_first x z (put cmp y zs) xz
+          ∙ (ap (λ ws. x ∷ ws) (sym (put_late y z zs yz))
+          ∙ (sym (put_late y x (z ∷ zs) (behind_first y x z xz yz)) ∙ sym (ap (put cmp y) (put_first x z zs xz)))))
+      by_both false true xz yz later =
+          ap (put cmp x) (put_first y z zs yz)
+          ∙ (put_late x y (z ∷ zs) (behind_first x y z yz xz)
+          ∙ (ap (λ ws. y ∷ ws) (put_late x z zs xz)
+          ∙ (sym (put_first y z (put cmp x zs) yz) ∙ sym (ap (put cmp y) (put_late x z zs xz)))))
+      by_both false false xz yz later =
+          ap (put cmp x) (put_late y z zs yz)
+          ∙ (put_late x z (put cmp y zs) xz
+          ∙ (ap (λ ws. z ∷ ws) later
+          ∙ (sym (put_late y z (put cmp x zs) yz) ∙ sym (ap (put cmp y) (put_late x z zs xz)))))
+
+  -- an element among others that are told apart from it is sorted as if it stood in front
+  pub sorted_front : (x : A) (before after : List A) → Each (λ y. Told y x) before → sorted cmp (before ++ x ∷ after) ≡ put cmp x (sorted cmp (before ++ after))
+  sorted_front x [] after each = refl
+  sorted_front x (y ∷ before) after each =
+      ap (put cmp y) (sorted_front x before after each.1) ∙ put_both y x (sorted cmp (before ++ after)) each.0

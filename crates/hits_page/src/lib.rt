@@ -4,12 +4,14 @@
 mod counting;
 mod entries;
 mod hits;
+mod laws;
 mod order;
 mod pager;
 mod sort_keys;
 mod sorts;
 
 pub use hits::{Hit, Page, Picked};
+pub use laws::pages_in_any_order;
 pub use pager::{PageError, Pager};
 pub use sort_keys::SortKey;
 pub use sorts::read_sort;
