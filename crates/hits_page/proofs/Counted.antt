@@ -6,7 +6,8 @@ use Rattle.std.proofs.Common.{refl, ap, sym}
 use Rattle.std.proofs.lemmas.List.{append_assoc}
 use Rattle.serde_json.specs.View.{items_view}
 use Rattle.serde_json.specs.declared.value.Value.{Value}
-use Rattle.hits_page.specs.Sorts.{count_items, with_key}
+use Rattle.search_filter.specs.Reading.{count_items}
+use Rattle.hits_page.specs.Sorts.{with_key}
 use Rattle.hits_page.specs.declared.pager.PageError.{PageError}
 use Rattle.hits_page.specs.declared.sort_keys.SortKey.{SortKey}
 

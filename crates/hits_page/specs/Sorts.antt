@@ -8,6 +8,7 @@ use Rattle.row_cells.specs.declared.schemas.Role.{Role}
 use Rattle.row_cells.specs.declared.schemas.Role.TheVariants.{Time, Dimension, Gauge, Counter, Label}
 use Rattle.row_cells.specs.declared.schemas.Field.{Field}
 use Rattle.row_cells.specs.declared.schemas.Schema.{Schema}
+use Rattle.search_filter.specs.Reading.{count_items}
 use Rattle.hits_page.specs.declared.entries.Entry.{Entry}
 use Rattle.hits_page.specs.declared.pager.PageError.{PageError}
 use Rattle.hits_page.specs.declared.pager.PageError.TheVariants.{WindowTooLarge, BadSort, Shape, NoMemory}
@@ -60,10 +61,6 @@ with_entry (Some e) (Some es) = Some (e ∷ es)
 abbrev pub entries_in : Items → Option (List Entry)
 entries_in no_items = Some []
 entries_in (item d ds) = with_entry (entry_of d) (entries_in ds)
-
-abbrev pub count_items : Items → ℕ
-count_items no_items = 0
-count_items (item d ds) = suc (count_items ds)
 
 -- one entry, or a list of at most three
 abbrev pub entries_of : Data → Option (List Entry)

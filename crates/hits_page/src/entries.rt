@@ -1,6 +1,7 @@
 //! The entries of a sort, as they are sent.
 ghost use Rattle.std.specs.Prelude.{◌≡◌, IfOk, Some, nat_le};
 ghost use Rattle.serde_json.specs.View.{items_view, view};
+ghost use Rattle.search_filter.specs.Reading.{count_items};
 ghost use Rattle.hits_page.specs.Sorts as spec;
 
 use edge_face::{NoMemory, Text};
@@ -97,7 +98,7 @@ fn entries_in(alloc: Global, items: &[Value]) -> Result<Option<Items<Entry>>, No
 
 #[tactic(auto, using(crate::proofs::Counted::items_counted))]
 fn are_few(items: &[Value]) -> bool
-    ensures { result ≡ nat_le (spec.count_items (items_view items.now)) 3 }
+    ensures { result ≡ nat_le (count_items (items_view items.now)) 3 }
 {
     items.len() <= MOST_ENTRIES
 }
