@@ -1,4 +1,4 @@
--- Values in memory as lists; for private clauses.
+-- Values, trees and ends in memory as what they are.
 use Rattle.std.specs.Prelude.{Bool, List, [], ◌∷◌, Option, Some, None, option_map}
 use denote.Bor.{Bor}
 use Rattle.serde_json.specs.Data.{Data}
