@@ -17,9 +17,9 @@ use Rattle.edge_face.specs.declared.reader.LineError.TheVariants as line
 use Rattle.tsds_cli.specs.Script.{Event, Moment, Request}
 use Rattle.tsds_cli.specs.declared.script.Opening.{Opening}
 use Rattle.tsds_cli.specs.declared.script.Opening.TheVariants as opening
-use Rattle.tsds_cli.specs.declared.script.ScriptError.{ScriptError}
-use Rattle.tsds_cli.specs.declared.script.ScriptError.TheVariants.{Read, TooLong, NoMemory}
-use Rattle.tsds_cli.specs.Errors.{script_error_of}
+use Rattle.tsds_cli.specs.declared.errors.RunError.{RunError}
+use Rattle.tsds_cli.specs.declared.errors.RunError.TheVariants.{Read, Write, TooLong, NoMemory}
+use Rattle.tsds_cli.specs.Errors.{run_error_of}
 use Rattle.tsds_cli.specs.Script.{Place, between, within, closes, next_place, at_end, closed_from, events_from, whole_lines, is_empty, is_skipped, is_moment}
 use Rattle.tsds_cli.specs.Limits.{is_long_piece, is_long_place, is_over, long_from, fine_from, passed_from}
 use Rattle.tsds_cli.specs.Ahead.{Ahead, ahead_in, ahead_of, behind, Passed, IsAtEnd, Stopped, opened, opens}
@@ -238,7 +238,7 @@ too_long place before (b ∷ all) bytes limit (inr past) =
 
 -- why a refused line stops the script
 pub stopped-line : (from place : Place) (error : LineError) (before shown : Reading) (old left : Option (List ℕ)) (count now : ℕ) → Passed from [] place before shown old left → shown.answered ≤ input_limit → CauseOf error shown left count now
-    → Stopped from (script_error_of error) before shown old left
+    → Stopped from (run_error_of error) before shown old left
 stopped-line from place line.Read before shown old left count now passed limit cause = record { place = place; passed = passed; why = (cause.0, cause.1, cause.3) }
 stopped-line from place (line.TooLong bytes) before shown old left count now passed limit cause = record { place = place; passed = passed; why = told left cause.0 }
   where
@@ -269,7 +269,7 @@ pub stopped-memory : (from place : Place) (before shown : Reading) (old left : O
 stopped-memory from place before shown old left passed = record { place = place; passed = passed; why = tt }
 
 -- behind a way on which nothing was closed
-pub stopped-behind : (from middle : Place) (error : ScriptError) (first second third : Reading) (a b c : Option (List ℕ)) → Passed from [] middle first second a b → Stopped middle error second third b c → Stopped from error first third a c
+pub stopped-behind : (from middle : Place) (error : RunError) (first second third : Reading) (a b c : Option (List ℕ)) → Passed from [] middle first second a b → Stopped middle error second third b c → Stopped from error first third a c
 stopped-behind from middle error first second third a b c passed stopped = record {
   place = stopped.place;
   passed = passed-passed [] [] from middle stopped.place first second third a b c passed stopped.passed;
@@ -330,14 +330,15 @@ close-passed n request body line shown after left shows some line_is empty is =
     (line-passed from n line shown after left shows some line_is (ap is_long_place leads) is))
 
 -- why a line isn't added to a body
-pub stopped-add : (from : Place) (error : ScriptError) (n : ℕ) (request body line : List ℕ) (before shown : Reading) (old left : Option (List ℕ)) → Passed from [] (within request body) before shown old left → ShowsLine n shown left → 0 < n → is_empty line ≡ false
-    → line ≡ line_of (take n shown.pending) → (error ≡ TooLong → body_limit < length (body ++ (line ++ 10 ∷ []))) → (error ≡ Read → ⊥) → Stopped from error before shown old left
-stopped-add from Read n request body line before shown old left passed shows some full is over no_fault = absurd (no_fault refl)
-stopped-add from TooLong n request body line before shown old left passed shows some full is over no_fault = stopped-body from n request body line before shown old left passed shows some full is (over refl)
-stopped-add from NoMemory n request body line before shown old left passed shows some full is over no_fault = stopped-memory from (within request body) before shown old left passed
+pub stopped-add : (from : Place) (error : RunError) (n : ℕ) (request body line : List ℕ) (before shown : Reading) (old left : Option (List ℕ)) → Passed from [] (within request body) before shown old left → ShowsLine n shown left → 0 < n → is_empty line ≡ false
+    → line ≡ line_of (take n shown.pending) → (error ≡ TooLong → body_limit < length (body ++ (line ++ 10 ∷ []))) → (error ≡ Read → ⊥) → (error ≡ Write → ⊥) → Stopped from error before shown old left
+stopped-add from Read n request body line before shown old left passed shows some full is over no_fault no_write = absurd (no_fault refl)
+stopped-add from TooLong n request body line before shown old left passed shows some full is over no_fault no_write = stopped-body from n request body line before shown old left passed shows some full is (over refl)
+stopped-add from NoMemory n request body line before shown old left passed shows some full is over no_fault no_write = stopped-memory from (within request body) before shown old left passed
+stopped-add from Write n request body line before shown old left passed shows some full is over no_fault no_write = absurd (no_write refl)
 
 -- the exit of a `?`
-pub err-stops : {T : Type 0} (from : Place) (r : Result T ScriptError) (e : ScriptError) (before after : Reading) (old new : Option (List ℕ)) → IsErrAnd r (λ y. y ≡ e) → Stopped from e before after old new → IfErr r (λ y. Stopped from y before after old new)
+pub err-stops : {T : Type 0} (from : Place) (r : Result T RunError) (e : RunError) (before after : Reading) (old new : Option (List ℕ)) → IsErrAnd r (λ y. y ≡ e) → Stopped from e before after old new → IfErr r (λ y. Stopped from y before after old new)
 err-stops from r e before after old new exit stopped =
     let answer = err_from_is_err_and r exit in
     subst (λ r. IfErr r (λ y. Stopped from y before after old new)) (sym answer.1) (subst (λ y. Stopped from y before after old new) (sym answer.2) stopped)

@@ -12,16 +12,13 @@ use Rattle.edge_face.specs.Limits.{line_limit}
 use Rattle.edge_face.specs.Lines.{pieces_of, line_of, with_first, HasNoNewline}
 use Rattle.edge_face.specs.Reading.{Reading, left_of}
 use Rattle.tsds_cli.specs.Script.{Event}
-use Rattle.tsds_cli.specs.declared.script.ScriptError.{ScriptError}
-use Rattle.tsds_cli.specs.declared.script.ScriptError.TheVariants.{Read, TooLong, NoMemory}
-use Rattle.tsds_cli.specs.declared.program.RunError.{RunError}
-use Rattle.tsds_cli.specs.declared.program.RunError.TheVariants as run
+use Rattle.tsds_cli.specs.declared.errors.RunError.{RunError}
+use Rattle.tsds_cli.specs.declared.errors.RunError.TheVariants.{Read, Write, TooLong, NoMemory}
 use Rattle.tsds_cli.specs.Script.{Place, between, closed_of, events_of, closed_from, events_from, whole_lines, lines_of}
 use Rattle.tsds_cli.specs.Limits.{fine_of, is_too_long, is_over, is_long_piece, passed_from}
 use Rattle.tsds_cli.specs.Ahead.{Ahead, ahead_in, ahead_of, behind, Passed, IsAtEnd, Stopped}
 use Rattle.tsds_cli.specs.Play.{Play, text_of, with_reply, replies, after_events, PutAll, IsBehind}
 use Rattle.tsds_cli.specs.Ends.{EndsBy, Broke, IsPut, Reached, IsFront, IsFine, IsNear, PutFront, PutPart, PutFine}
-use Rattle.tsds_cli.specs.Words.{run_error_of}
 use Rattle.tsds_cli.proofs.PassLemmas.{passed-passed, preceded-preceded, preceded-nothing, short_piece}
 
 -- a reader that has read nothing
@@ -254,24 +251,24 @@ module _ {S : Type 0} (play : Play S) where
   -- an event that broke off
   pub ends-broken : (start now state : S) (error : RunError) (reader reader' : Reading) (script left left' given0 given given' : Option (List ℕ)) (e : Event) → Reached play start now fresh reader script left given0 given → Passed between (e ∷ []) between reader reader' left left' → KnowsEnd reader'.ended left'
       → Broke play now state e error given given' → EndsBy play start state error script left' given0 given'
-  ends-broken start now state run.NoMemory reader reader' script left left' given0 given given' e r p knows (inl none) =
+  ends-broken start now state NoMemory reader reader' script left left' given0 given given' e r p knows (inl none) =
       subst (λ g. PutFront play start state script left' given0 g) (sym none.1) (front-before start now state reader reader' script left left' given0 given e r p knows none.0)
-  ends-broken start now state run.NoMemory reader reader' script left left' given0 given given' e r p knows (inr all) =
+  ends-broken start now state NoMemory reader reader' script left left' given0 given given' e r p knows (inr all) =
       front-behind start now state reader reader' script left left' given0 given given' e r p knows all.0 all.1
-  ends-broken start now state run.Write reader reader' script left left' given0 given given' e r p knows broke = part-of start now state reader reader' script left left' given0 given given' e r p knows broke.0 broke.1
-  ends-broken start now state run.Read reader reader' script left left' given0 given given' e r p knows broke = absurd broke
-  ends-broken start now state run.TooLong reader reader' script left left' given0 given given' e r p knows broke = absurd broke
+  ends-broken start now state Write reader reader' script left left' given0 given given' e r p knows broke = part-of start now state reader reader' script left left' given0 given given' e r p knows broke.0 broke.1
+  ends-broken start now state Read reader reader' script left left' given0 given given' e r p knows broke = absurd broke
+  ends-broken start now state TooLong reader reader' script left left' given0 given given' e r p knows broke = absurd broke
 
   -- no memory before the first event
-  pub ends-unread : (start : S) (script given0 : Option (List ℕ)) → EndsBy play start start run.NoMemory script script given0 given0
+  pub ends-unread : (start : S) (script given0 : Option (List ℕ)) → EndsBy play start start NoMemory script script given0 given0
   ends-unread start script given0 = front-of start start fresh script script given0 given0 (reached-none start fresh script given0 refl) (λ e. absurd (no e))
     where
       no : ◌≡◌ {A = Bool} false true → ⊥
       no h = cc
 
   -- why the next event doesn't come
-  pub ends-by : (start now : S) (error : ScriptError) (reader reader' : Reading) (script left left' given0 given : Option (List ℕ)) → Reached play start now fresh reader script left given0 given → Stopped between error reader reader' left left' → KnowsEnd reader'.ended left'
-      → EndsBy play start now (run_error_of error) script left' given0 given
+  pub ends-by : (start now : S) (error : RunError) (reader reader' : Reading) (script left left' given0 given : Option (List ℕ)) → Reached play start now fresh reader script left given0 given → Stopped between error reader reader' left left' → KnowsEnd reader'.ended left'
+      → EndsBy play start now error script left' given0 given
   ends-by start now Read reader reader' script left left' given0 given r s knows =
       let p = passed-passed r.done [] between between s.place fresh reader reader' script left left' r.passed s.passed in
       let all : closed_of (p.gone ++ reader'.pending) ≡ r.done = p.closed s.why.1 reader'.pending ∙ ap (λ ls. (r.done ++ []) ++ closed_from s.place ls) (none-whole reader'.pending s.why.0) ∙ append-nil (r.done ++ []) ∙ append-nil r.done in
@@ -287,6 +284,7 @@ module _ {S : Type 0} (play : Play S) where
       let p = passed-passed r.done [] between between s.place fresh reader reader' script left left' r.passed s.passed in
       let f = fronts (r.done ++ []) s.place reader' script left' knows p in
       record { done = r.done; more = f.0; front = subst (λ es. IsFront es f.0 script left') (append-nil r.done) f.1; fine = fine-front r.done between reader script left r.passed; put = r.put; state = inl r.state }
+  ends-by start now Write reader reader' script left left' given0 given r s knows = absurd s.why
   ends-by start now TooLong reader reader' script left left' given0 given r s knows =
       let p = passed-passed r.done [] between between s.place fresh reader reader' script left left' r.passed s.passed in
       long script (told-ahead (r.done ++ []) script (ahead_of s.place reader' left') (λ a. (a.fine ≡ []) × (a.long ≡ true)) p.ahead s.why)

@@ -9,8 +9,8 @@ use Rattle.tsds_cli.specs.Script.{Event}
 use Rattle.tsds_cli.specs.declared.script.Heard.{Heard}
 use Rattle.tsds_cli.specs.declared.script.Opening.{Opening}
 use Rattle.tsds_cli.specs.declared.script.Opening.TheVariants.{Moment, Request}
-use Rattle.tsds_cli.specs.declared.script.ScriptError.{ScriptError}
-use Rattle.tsds_cli.specs.declared.script.ScriptError.TheVariants.{Read, TooLong, NoMemory}
+use Rattle.tsds_cli.specs.declared.errors.RunError.{RunError}
+use Rattle.tsds_cli.specs.declared.errors.RunError.TheVariants.{Read, Write, TooLong, NoMemory}
 use Rattle.tsds_cli.specs.Script as Script
 use Rattle.tsds_cli.specs.Script.{Place, between, within, whole_lines, events_from, closed_from}
 use Rattle.tsds_cli.specs.Limits.{long_from, fine_from, passed_from}
@@ -57,13 +57,14 @@ pub record IsAtEnd (from place : Place) (before after : Reading) (old new : Opti
   pub nothing : after.pending ≡ []
 
 -- why no further event comes, where the reader stands at this place
-abbrev pub WhyStopped : ScriptError → Place → Reading → Option (List ℕ) → Type 0
+abbrev pub WhyStopped : RunError → Place → Reading → Option (List ℕ) → Type 0
 WhyStopped Read place reader left = HasNoNewline reader.pending × (reader.ended ≡ false) × (length reader.pending ≤ line_limit)
 WhyStopped TooLong place reader left = IfSome (ahead_of place reader left) (λ ahead. (ahead.fine ≡ []) × (ahead.long ≡ true))
 WhyStopped NoMemory place reader left = Unit {0}
+WhyStopped Write place reader left = ⊥
 
 -- a reader went on without closing an event, and stopped
-pub record Stopped (from : Place) (error : ScriptError) (before after : Reading) (old new : Option (List ℕ)) : Type 0 where
+pub record Stopped (from : Place) (error : RunError) (before after : Reading) (old new : Option (List ℕ)) : Type 0 where
   pub place : Place
   pub passed : Passed from [] place before after old new
   pub why : WhyStopped error place after new
@@ -81,6 +82,11 @@ opens Request line = within line []
 abbrev pub event_by : Opening → List ℕ → List ℕ → Event
 event_by Moment text body = Script.Moment text
 event_by Request line body = Script.Request line body
+
+-- what opened an event
+abbrev pub opening_of : Event → Opening
+opening_of (Script.Moment text) = Moment
+opening_of (Script.Request line body) = Request
 
 abbrev pub event_in : Heard → Event
 event_in heard = event_by heard.opening heard.line.items heard.body.items

@@ -1,5 +1,5 @@
 -- The plain machine: one list of documents, and what it answers.
-use Rattle.std.specs.Prelude.{◌≡◌, ℕ, ◌==◌, ℤ, pos, negsuc, List, [], ◌∷◌, ◌++◌, length, Bool, true, false, ◌&&◌, map, bytes_eq, codes, nat_lt, int_le, Option, None, Some, option_and_then, if◌then◌else◌}
+use Rattle.std.specs.Prelude.{◌≡◌, ℕ, ◌==◌, ℤ, pos, List, [], ◌∷◌, ◌++◌, length, Bool, true, false, ◌&&◌, map, bytes_eq, codes, int_le, Option, None, Some, option_and_then, if◌then◌else◌}
 use Rattle.std.specs.Option.{option_map}
 use Rattle.std.specs.List.{list_any, slice_split}
 use Rattle.std.specs.Fmt.{decimal}
@@ -13,7 +13,10 @@ use Rattle.reply_json.specs.declared.out.Out.{Out, Flag, Num, Word, List as arra
 use Rattle.reply_json.specs.Reply.{text}
 use Rattle.reply_json.specs.Trees.{member, error_tree}
 use Rattle.tsds_cli.specs.Script.{Event, Moment, Request}
-use Rattle.time_text.specs.Instant.{instant_of}
+use Rattle.tsds_cli.specs.Ahead.{opening_of}
+use Rattle.tsds_cli.specs.declared.script.Opening.{Opening}
+use Rattle.tsds_cli.specs.declared.script.Opening.TheVariants as opening
+use Rattle.time_text.specs.Instant.{instant_of, in_range}
 use Rattle.tsds_cli.specs.declared.machine.Reply.{Reply}
 use Rattle.tsds_cli.specs.declared.machine.Machine.{Machine}
 use Rattle.tsds_cli.specs.Play.{Act, Play}
@@ -30,13 +33,9 @@ whole_at name tree = option_and_then as_i64 (option_and_then as_number (get name
 abbrev pub text_at : List ℕ → Data → Option (List ℕ)
 text_at name tree = option_and_then as_str (get name tree)
 
--- milliseconds from the start of 1970 to the end of 9999
-abbrev pub is_instant : ℤ → Bool
-is_instant (pos n) = nat_lt n 253402300800000
-is_instant (negsuc n) = false
-
+-- of the time of a document, which has to be an instant, its host and its value
 abbrev pub document_from : Option ℤ → Option (List ℕ) → Option ℤ → Option Document
-document_from (Some time) (Some host) (Some v) = if is_instant time then Some (record { host = host; time = time; v = v }) else None
+document_from (Some time) (Some host) (Some v) = option_map (λ t. record { host = host; time = t; v = v }) (in_range time)
 document_from (Some time) (Some host) None = None
 document_from (Some time) None v = None
 document_from None host v = None
@@ -180,13 +179,13 @@ moved now (Some moment) = moment
 abbrev pub empty_machine : Machine
 empty_machine = record { now = pos 0; documents = [] }
 
--- what a unit leaves, and what an event leaves behind its step: a moment is followed by no unit
+-- what a unit leaves, and what an event that was opened so leaves behind its step: a moment is followed by no unit
 unfoldable pub unit : Machine → Machine
 unit machine = machine
 
-abbrev pub rest_of : Event → Machine → Machine
-rest_of (Moment text) machine = machine
-rest_of (Request line body) machine = unit machine
+abbrev pub rest_of : Opening → Machine → Machine
+rest_of opening.Moment machine = machine
+rest_of opening.Request machine = unit machine
 
 -- the machine's reply to an event, and its step
 abbrev pub reply_of : Machine → Event → Option Reply
@@ -201,7 +200,7 @@ unfoldable pub act_of : Machine → Event → Act Machine
 act_of machine event = record {
   reply = option_map reply_line (reply_of machine event);
   stepped = stepped_of machine event;
-  after = rest_of event (stepped_of machine event);
+  after = rest_of (opening_of event) (stepped_of machine event);
 }
 
 -- without memory for a step it stays as it was

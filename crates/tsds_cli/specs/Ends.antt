@@ -3,8 +3,8 @@ use Rattle.std.specs.Prelude.{◌≡◌, ℕ, ◌<◌, List, [], ◌∷◌, ◌+
 use Rattle.std.specs.List.{concat}
 use Rattle.edge_face.specs.Contents.{appended, preceded}
 use Rattle.edge_face.specs.Reading.{Reading}
-use Rattle.tsds_cli.specs.declared.program.RunError.{RunError}
-use Rattle.tsds_cli.specs.declared.program.RunError.TheVariants.{NoMemory, Read, Write, TooLong}
+use Rattle.tsds_cli.specs.declared.errors.RunError.{RunError}
+use Rattle.tsds_cli.specs.declared.errors.RunError.TheVariants.{NoMemory, Read, Write, TooLong}
 use Rattle.tsds_cli.specs.Ahead.{Passed}
 use Rattle.tsds_cli.specs.Limits.{fine_of, is_too_long, has_passed}
 use Rattle.tsds_cli.specs.Script.{Event, between, closed_of, events_of}

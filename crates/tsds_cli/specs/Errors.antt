@@ -1,10 +1,17 @@
--- Which refusal of a line is which refusal of a script.
+-- Which refusal of a line ends a run how, and the statuses that the program ends with.
+use Rattle.std.specs.Prelude.{ℕ}
 use Rattle.edge_face.specs.declared.reader.LineError.{LineError}
 use Rattle.edge_face.specs.declared.reader.LineError.TheVariants as line
-use Rattle.tsds_cli.specs.declared.script.ScriptError.{ScriptError}
-use Rattle.tsds_cli.specs.declared.script.ScriptError.TheVariants.{Read, TooLong, NoMemory}
+use Rattle.tsds_cli.specs.declared.errors.RunError.{RunError}
+use Rattle.tsds_cli.specs.declared.errors.RunError.TheVariants.{NoMemory, Read, Write, TooLong}
 
-abbrev pub script_error_of : LineError → ScriptError
-script_error_of line.Read = Read
-script_error_of (line.TooLong bytes) = TooLong
-script_error_of line.NoMemory = NoMemory
+abbrev pub run_error_of : LineError → RunError
+run_error_of line.Read = Read
+run_error_of (line.TooLong bytes) = TooLong
+run_error_of line.NoMemory = NoMemory
+
+abbrev pub status_of : RunError → ℕ
+status_of NoMemory = 3
+status_of Read = 4
+status_of Write = 7
+status_of TooLong = 8

@@ -4,13 +4,14 @@ ghost use Rattle.std.specs.List.{list_any};
 ghost use Rattle.std.specs.Prelude.{length, take};
 ghost use Rattle.serde_json.specs.View.{view};
 ghost use Rattle.tsds_cli.specs.Documents.{document_of, is_at, outcome_from, added_from, outcomes_of, documents_after, is_refused};
-ghost use Rattle.tsds_cli.specs.Documents.{is_instant as instant_test, tree_document as document_in, whole_at as whole_number};
+ghost use Rattle.tsds_cli.specs.Documents.{tree_document as document_in, whole_at as whole_number};
 
 use edge_face::{NoMemory, Text};
 use json_walk::{NotJson, has_names, read_line, whole};
 use serde_json::Value;
 use std::alloc::Global;
 use std::marker::Model;
+use time_text::is_instant;
 
 /// A host's value at a time, in milliseconds since 1970.
 #[derive(Debug, Drop)]
@@ -54,13 +55,6 @@ impl Model for Documents {
     ghost Value = { List Document };
 
     ghost view = { λ d. d.rows.items };
-}
-
-/// Whether a time is one that a document may have.
-fn is_instant(time: i64) -> bool
-    ensures { result ≡ instant_test time }
-{
-    time >= 0 && time < 253_402_300_800_000
 }
 
 /// The document that a source is, or none.

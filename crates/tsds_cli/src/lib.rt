@@ -2,8 +2,10 @@
 #![tactic(auto)]
 
 mod documents;
+mod errors;
 mod machine;
 mod program;
 mod script;
 
-pub use program::{NO_MEMORY, USAGE, status_text, top};
+pub use errors::NO_MEMORY;
+pub use program::{USAGE, status_text, top};

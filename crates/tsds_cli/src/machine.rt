@@ -352,13 +352,17 @@ fn move_on(alloc: Global, now: &mut i64, text: &[u8]) -> Result<Option<Reply>, N
     }
 }
 
-/// Makes the step of an event. Without memory the machine stays as it was.
+/// Makes the step of an event, which is the machine's from now on. Without memory the machine stays as it was.
 #[tactic(auto, unfolding(crate::specs::Documents::act_of))]
-pub fn act(alloc: Global, machine: &mut Machine, heard: &Heard) -> Result<Option<Reply>, NoMemory>
-    ensures reply { IfOk result (λ r. option_map reply_line r ≡ (script_play.act machine.old (event_in heard.now)).reply) }
-    ensures stepped { OnOk result (machine.new ≡ (script_play.act machine.old (event_in heard.now)).stepped) }
-    ensures after { OnOk result ((script_play.act machine.old (event_in heard.now)).after ≡ rest_of (event_in heard.now) machine.new) }
-    ensures refused { OnErr result (script_play.left machine.old (event_in heard.now) machine.new) }
+pub fn act(
+    alloc: Global,
+    machine: &mut Machine,
+    heard: &mut Heard,
+) -> Result<Option<Reply>, NoMemory>
+    ensures reply { IfOk result (λ r. option_map reply_line r ≡ (script_play.act machine.old (event_in heard.old)).reply) }
+    ensures stepped { OnOk result (machine.new ≡ (script_play.act machine.old (event_in heard.old)).stepped) }
+    ensures after { OnOk result ((script_play.act machine.old (event_in heard.old)).after ≡ rest_of heard.old.opening machine.new) }
+    ensures refused { OnErr result (script_play.left machine.old (event_in heard.old) machine.new) }
 {
     match heard.opening {
         Opening::Moment => move_on(alloc, &mut machine.now, heard.line.as_slice()),
@@ -374,13 +378,13 @@ pub fn act(alloc: Global, machine: &mut Machine, heard: &Heard) -> Result<Option
     }
 }
 
-/// Makes the unit behind an event, where it has one. Without memory nothing is changed.
+/// Makes the unit behind an event that was opened so, where it has one. Without memory nothing is changed.
 #[tactic(auto, unfolding(crate::specs::Documents::unit))]
-pub fn go_on(_machine: &mut Machine, heard: &Heard) -> Result<(), NoMemory>
-    ensures after { OnOk result (_machine.new ≡ rest_of (event_in heard.now) _machine.old) }
+pub fn go_on(_machine: &mut Machine, opening: Opening) -> Result<(), NoMemory>
+    ensures after { OnOk result (_machine.new ≡ rest_of opening _machine.old) }
     ensures refused { OnErr result (_machine.new ≡ _machine.old) }
 {
-    match heard.opening {
+    match opening {
         Opening::Moment | Opening::Request => Ok(()),
     }
 }

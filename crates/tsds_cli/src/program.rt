@@ -9,72 +9,16 @@ ghost use Rattle.tsds_cli.specs.Play.{PutAll, IsBehind, text_of};
 ghost use Rattle.tsds_cli.specs.Ends.{Ends, EndsBy, Unseen, Broke, IsPut};
 ghost use Rattle.tsds_cli.specs.Ahead.{event_in};
 ghost use Rattle.tsds_cli.specs.Documents.{script_play, empty_machine, reply_line};
-ghost use Rattle.tsds_cli.specs.Words.{is_run, status_of};
+ghost use Rattle.tsds_cli.specs.Words.{is_run};
 
+use crate::errors::RunError;
 use crate::machine::{Machine, Reply, act, go_on, print_reply};
-use crate::script::{Heard, ScriptError, next_event};
+use crate::script::{Heard, next_event};
 use edge_face::{LineReader, NoMemory, Sink, Source, put_all};
 use std::alloc::Global;
-use thiserror::Error;
 
 /// The status where the words of the command line are no command.
 pub const USAGE: u8 = 2;
-
-/// The status where there was no memory.
-pub const NO_MEMORY: u8 = 3;
-
-/// Why a run ends before the end of its script.
-#[derive(Clone, Copy, Debug, PartialEq, Eq, Error)]
-pub enum RunError {
-    #[error("out of memory")]
-    NoMemory,
-    #[error("read fault")]
-    Read,
-    #[error("write fault")]
-    Write,
-    #[error("input too long")]
-    TooLong,
-}
-
-impl From<ScriptError> for RunError {
-    ghost use Rattle.std.specs.Prelude.{◌≡◌};
-    ghost use Rattle.tsds_cli.specs.Words.{run_error_of};
-
-    ghost from_gives = { λ e r. r ≡ run_error_of e };
-
-    fn from(error: ScriptError) -> RunError {
-        match error {
-            ScriptError::Read => RunError::Read,
-            ScriptError::TooLong => RunError::TooLong,
-            ScriptError::NoMemory => RunError::NoMemory,
-        }
-    }
-}
-
-impl From<NoMemory> for RunError {
-    ghost use Rattle.std.specs.Prelude.{◌≡◌};
-    ghost use Rattle.tsds_cli.specs.declared.program.RunError.TheVariants.{NoMemory as OutOfMemory};
-
-    ghost from_gives = { λ _ e. e ≡ OutOfMemory };
-
-    fn from(_: NoMemory) -> RunError {
-        RunError::NoMemory
-    }
-}
-
-impl RunError {
-    /// The status that the program ends with.
-    fn status(self) -> u8
-        ensures { result ≡ status_of self }
-    {
-        match self {
-            RunError::NoMemory => NO_MEMORY,
-            RunError::Read => 4,
-            RunError::Write => 7,
-            RunError::TooLong => 8,
-        }
-    }
-}
 
 /// Puts one reply.
 fn put_reply<K: Sink>(sink: &mut K, reply: &[u8]) -> Result<(), RunError>
@@ -105,20 +49,21 @@ fn do_event<K: Sink>(
     alloc: Global,
     machine: &mut Machine,
     sink: &mut K,
-    heard: &Heard,
+    heard: &mut Heard,
     text: &mut Vec<u8>,
 ) -> Result<(), RunError>
-    ensures after { OnOk result (machine.new ≡ (script_play.act machine.old (event_in heard.now)).after) }
-    ensures put { OnOk result (K.given sink.new ≡ appended (K.given sink.old) (text_of (script_play.act machine.old (event_in heard.now)).reply)) }
-    ensures broke { IfErr result (λ e. Broke script_play machine.old machine.new (event_in heard.now) e (K.given sink.old) (K.given sink.new)) }
+    ensures after { OnOk result (machine.new ≡ (script_play.act machine.old (event_in heard.old)).after) }
+    ensures put { OnOk result (K.given sink.new ≡ appended (K.given sink.old) (text_of (script_play.act machine.old (event_in heard.old)).reply)) }
+    ensures broke { IfErr result (λ e. Broke script_play machine.old machine.new (event_in heard.old) e (K.given sink.old) (K.given sink.new)) }
     ensures write { result ≡ Err RunError.Write → Rose (K.faults sink.old) (K.faults sink.new) }
     ensures faults { K.faults sink.old ≤ K.faults sink.new }
 {
+    let opening = heard.opening;
     text.clear();
     let reply = act(alloc, machine, heard)?;
     print_some(&reply, text)?;
     put_reply(sink, text.as_slice())?;
-    go_on(machine, heard)?;
+    go_on(machine, opening)?;
     Ok(())
 }
 
@@ -147,7 +92,7 @@ fn run<S: Source, K: Sink>(
         if !more {
             return Ok(());
         }
-        do_event(alloc, machine, sink, &heard, &mut text)?;
+        do_event(alloc, machine, sink, &mut heard, &mut text)?;
     }
 }
 

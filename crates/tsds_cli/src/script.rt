@@ -6,9 +6,9 @@ ghost use Rattle.edge_face.specs.Limits.{body_limit, input_limit};
 ghost use Rattle.tsds_cli.specs.Script.{Request, is_skipped as skips, is_empty, is_moment, between, within, closes, next_place};
 ghost use Rattle.tsds_cli.specs.Ahead.{Passed, IsAtEnd, Stopped, opened, opens, event_in};
 
-use edge_face::{BODY_LIMIT, LineError, LineReader, NoMemory, Source};
+use crate::errors::RunError;
+use edge_face::{BODY_LIMIT, LineReader, NoMemory, Source};
 use std::alloc::{AllocError, Global};
-use thiserror::Error;
 
 /// What a line between events opens.
 #[derive(Clone, Copy, Debug, PartialEq, Eq)]
@@ -20,6 +20,9 @@ pub enum Opening {
 }
 
 /// An event of a script, in buffers that are used again for the next.
+///
+/// It is handed to the machine for good: what a machine keeps of it, as the body of a bulk request, it moves out, and no byte is
+/// copied. The next event finds its buffers in whatever state the machine leaves them.
 #[derive(Debug, Drop)]
 pub struct Heard {
     pub opening: Opening,
@@ -35,54 +38,6 @@ impl Heard {
             line: Vec::new(alloc),
             body: Vec::new(alloc),
         }
-    }
-}
-
-/// Why a script gives no further event.
-#[derive(Clone, Copy, Debug, PartialEq, Eq, Error)]
-pub enum ScriptError {
-    #[error("the source failed")]
-    Read,
-    #[error("the script passes one of its lengths")]
-    TooLong,
-    #[error("out of memory")]
-    NoMemory,
-}
-
-impl From<LineError> for ScriptError {
-    ghost use Rattle.std.specs.Prelude.{◌≡◌};
-    ghost use Rattle.tsds_cli.specs.Errors.{script_error_of};
-
-    ghost from_gives = { λ e s. s ≡ script_error_of e };
-
-    fn from(error: LineError) -> ScriptError {
-        match error {
-            LineError::Read => ScriptError::Read,
-            LineError::TooLong { .. } => ScriptError::TooLong,
-            LineError::NoMemory => ScriptError::NoMemory,
-        }
-    }
-}
-
-impl From<NoMemory> for ScriptError {
-    ghost use Rattle.std.specs.Prelude.{◌≡◌};
-    ghost use Rattle.tsds_cli.specs.declared.script.ScriptError.TheVariants.{NoMemory as OutOfMemory};
-
-    ghost from_gives = { λ _ e. e ≡ OutOfMemory };
-
-    fn from(_: NoMemory) -> ScriptError {
-        ScriptError::NoMemory
-    }
-}
-
-impl From<AllocError> for ScriptError {
-    ghost use Rattle.std.specs.Prelude.{◌≡◌};
-    ghost use Rattle.tsds_cli.specs.declared.script.ScriptError.TheVariants.{NoMemory as OutOfMemory};
-
-    ghost from_gives = { λ _ e. e ≡ OutOfMemory };
-
-    fn from(_: AllocError) -> ScriptError {
-        ScriptError::NoMemory
     }
 }
 
@@ -132,7 +87,7 @@ fn next_opening<S: Source>(
     reader: &mut LineReader,
     source: &mut S,
     into: &mut Vec<u8>,
-) -> Result<Option<Opening>, ScriptError>
+) -> Result<Option<Opening>, RunError>
     requires fine { reader.old.refused ≡ None }
     requires knows { KnowsEnd reader.old.ended (S.left source.old) }
     ensures found { IfOk result (λ found. IfSome found (λ o. Passed between (opened o into.new.items) (opens o into.new.items) reader.old reader.new (S.left source.old) (S.left source.new))) }
@@ -141,7 +96,7 @@ fn next_opening<S: Source>(
     ensures fine { OnOk result (reader.new.refused ≡ None) }
     ensures knows { KnowsEnd reader.new.ended (S.left source.new) }
     ensures onward { IfOk result (λ found. IfSome found (λ _. (reader.old.answered < reader.new.answered) × (reader.new.answered ≤ input_limit))) }
-    ensures read { result ≡ Err ScriptError.Read → Rose (S.faults source.old) (S.faults source.new) }
+    ensures read { result ≡ Err RunError.Read → Rose (S.faults source.old) (S.faults source.new) }
     ensures faults { S.faults source.old ≤ S.faults source.new }
 {
     'lines: loop {
@@ -170,15 +125,15 @@ fn ends_body(line: &[u8]) -> bool
 }
 
 /// Adds a line to a body, with its newline.
-fn add_line(body: &mut Vec<u8>, line: &[u8]) -> Result<(), ScriptError>
+fn add_line(body: &mut Vec<u8>, line: &[u8]) -> Result<(), RunError>
     requires { length body.old.items ≤ body_limit }
     ensures ok { OnOk result (body.new.items ≡ body.old.items ++ (line.now ++ 10 ∷ [])) }
     ensures short { OnOk result (length body.new.items ≤ body_limit) }
-    ensures long { result ≡ Err ScriptError.TooLong → body_limit < length (body.old.items ++ (line.now ++ 10 ∷ [])) }
-    ensures read { result ≢ Err ScriptError.Read }
+    ensures long { result ≡ Err RunError.TooLong → body_limit < length (body.old.items ++ (line.now ++ 10 ∷ [])) }
+    ensures others { (result ≢ Err RunError.Read) × (result ≢ Err RunError.Write) }
 {
     if line.len() as u64 >= BODY_LIMIT - body.len() as u64 {
-        return Err(ScriptError::TooLong);
+        return Err(RunError::TooLong);
     }
     body.extend_from_slice(line)?;
     body.push(b'\n').map_err(AllocError::from)?;
@@ -190,7 +145,7 @@ fn read_body<S: Source>(
     reader: &mut LineReader,
     source: &mut S,
     heard: &mut Heard,
-) -> Result<(), ScriptError>
+) -> Result<(), RunError>
     requires fine { reader.old.refused ≡ None }
     requires knows { KnowsEnd reader.old.ended (S.left source.old) }
     ensures event { OnOk result (Passed (within heard.old.line.items []) (Request heard.old.line.items heard.new.body.items ∷ []) between
@@ -200,7 +155,7 @@ fn read_body<S: Source>(
     ensures fine { OnOk result (reader.new.refused ≡ None) }
     ensures knows { KnowsEnd reader.new.ended (S.left source.new) }
     ensures onward { OnOk result (reader.old.answered ≤ reader.new.answered) }
-    ensures read { result ≡ Err ScriptError.Read → Rose (S.faults source.old) (S.faults source.new) }
+    ensures read { result ≡ Err RunError.Read → Rose (S.faults source.old) (S.faults source.new) }
     ensures faults { S.faults source.old ≤ S.faults source.new }
 {
     heard.body.clear();
@@ -224,7 +179,7 @@ pub fn next_event<S: Source>(
     reader: &mut LineReader,
     source: &mut S,
     heard: &mut Heard,
-) -> Result<bool, ScriptError>
+) -> Result<bool, RunError>
     requires fine { reader.old.refused ≡ None }
     requires knows { KnowsEnd reader.old.ended (S.left source.old) }
     ensures event { result ≡ Ok true → Passed between (event_in heard.new ∷ []) between reader.old reader.new (S.left source.old) (S.left source.new) }
@@ -233,7 +188,7 @@ pub fn next_event<S: Source>(
     ensures fine { OnOk result (reader.new.refused ≡ None) }
     ensures knows { KnowsEnd reader.new.ended (S.left source.new) }
     ensures onward { result ≡ Ok true → (reader.old.answered < reader.new.answered) × (reader.old.answered < input_limit) }
-    ensures read { result ≡ Err ScriptError.Read → Rose (S.faults source.old) (S.faults source.new) }
+    ensures read { result ≡ Err RunError.Read → Rose (S.faults source.old) (S.faults source.new) }
     ensures faults { S.faults source.old ≤ S.faults source.new }
 {
     match next_opening(reader, source, &mut heard.line)? {

@@ -3,8 +3,7 @@ use Rattle.edge_face.specs.Reading.{Reading}
 use Rattle.edge_face.specs.Waiting.{KnowsEnd}
 use Rattle.tsds_cli.specs.Ahead.{event_in}
 use Rattle.tsds_cli.specs.Documents.{script_play}
-use Rattle.tsds_cli.specs.Words.{run_error_of}
-use Rattle.tsds_cli.specs.declared.program.RunError.TheVariants.{NoMemory}
+use Rattle.tsds_cli.specs.declared.errors.RunError.TheVariants.{NoMemory}
 use Rattle.tsds_cli.proofs.RunLemmas.{reached-none, one-more, ends-by, ends-broken, ends-unread, err-ends}
 use Rattle.tsds_cli.proofs.program.run.Goals as goal
 
@@ -24,7 +23,7 @@ returns-in_err-reader-clause-refused g c =
 
 pub returns-in_err-more-clause-refused : goal.returns-in_err-more-clause-refused
 returns-in_err-more-clause-refused g c =
-    err-ends script_play c.args.machine.now c.events.machine c.from_residual-in_err-more.result (run_error_of c.in_err-more.field-0.0) _ _ _ _ c.from_residual-in_err-more.ensures.1
+    err-ends script_play c.args.machine.now c.events.machine c.from_residual-in_err-more.result c.in_err-more.field-0.0 _ _ _ _ c.from_residual-in_err-more.ensures.1
     (ends-by script_play c.args.machine.now c.events.machine c.in_err-more.field-0.0 c.events.reader c.next_event.new.reader _ _ _ _ _ c.events.invariant.reached c.in_err-more.ensures.stopped c.next_event.ensures.knows)
 
 pub returns-in_err-do_event-clause-refused : goal.returns-in_err-do_event-clause-refused

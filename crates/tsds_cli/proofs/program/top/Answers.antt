@@ -1,8 +1,8 @@
 use Rattle.std.proofs.Common.{[], ◌∷◌, refl, lit<, sym, subst}
 use Rattle.std.specs.Prelude.{Contains}
-use Rattle.tsds_cli.specs.declared.program.RunError.{RunError}
-use Rattle.tsds_cli.specs.declared.program.RunError.TheVariants.{NoMemory, Read, Write, TooLong}
-use Rattle.tsds_cli.specs.Words.{status_of}
+use Rattle.tsds_cli.specs.declared.errors.RunError.{RunError}
+use Rattle.tsds_cli.specs.declared.errors.RunError.TheVariants.{NoMemory, Read, Write, TooLong}
+use Rattle.tsds_cli.specs.Errors.{status_of}
 use Rattle.tsds_cli.proofs.program.top.Goals as goal
 
 -- each error has a status of its own

@@ -1,7 +1,7 @@
 use Rattle.std.proofs.Common.{◌∙◌, ◌++◌, ◌∷◌, ℕ, ◌≤◌, [], Err, List, length, arith, sym, subst, ap}
 use Rattle.edge_face.specs.Reading.{Reading}
 use Rattle.tsds_cli.specs.Script.{Request}
-use Rattle.tsds_cli.specs.Errors.{script_error_of}
+use Rattle.tsds_cli.specs.Errors.{run_error_of}
 use Rattle.tsds_cli.specs.Script.{Place, between, within}
 use Rattle.tsds_cli.specs.Ahead.{Passed}
 use Rattle.edge_face.specs.Limits.{body_limit}
@@ -13,7 +13,7 @@ returns-in_err-piece-clause-stopped g c =
     let from : Place = within c.args.heard.now.line.items [] in
     let here : Place = within c.args.heard.now.line.items c.lines.heard.body.items in
     let passed = passed-passed [] [] from here here c.args.reader.now c.lines.reader c.find_line.new.self _ _ _ c.lines.invariant.passed (looked here c.lines.reader c.find_line.new.self _ _ c.find_line.ensures.kept c.find_line.ensures.counted c.find_line.ensures.still) in
-    err-stops from c.from_residual.result (script_error_of c.in_err-piece.field-0.0) c.args.reader.now c.find_line.new.self _ _ c.from_residual.ensures.1
+    err-stops from c.from_residual.result (run_error_of c.in_err-piece.field-0.0) c.args.reader.now c.find_line.new.self _ _ c.from_residual.ensures.1
     (stopped-line from here c.in_err-piece.field-0.0 c.args.reader.now c.find_line.new.self _ _ _ _ passed c.find_line.ensures.within (c.in_err-piece.ensures.cause c.lines.invariant.fine))
 
 pub returns-then-piece-eq0-clause-event : goal.returns-then-piece-eq0-clause-event
@@ -38,7 +38,7 @@ returns-in_err-add_line-clause-stopped g c =
     let passed = passed-passed [] [] from here here c.args.reader.now c.lines.reader c.find_line.new.self _ _ _ c.lines.invariant.passed (looked here c.lines.reader c.find_line.new.self _ _ c.find_line.ensures.kept c.find_line.ensures.counted c.find_line.ensures.still) in
     err-stops from c.from_residual-in_err-add_line.result c.in_err-add_line.field-0.0 c.args.reader.now c.find_line.new.self _ _ c.from_residual-in_err-add_line.ensures.1
     (stopped-add from c.in_err-add_line.field-0.0 c.in_ok-piece.piece c.args.heard.now.line.items c.lines.heard.body.items c.line-line.result.now c.args.reader.now c.find_line.new.self _ _ passed c.in_ok-piece.ensures.found (omega arith)
-    (sym c.ends_body.ensures ∙ c.if-ends_body.false) c.line-line.ensures (λ e. c.in_err-add_line.ensures.long (ap Err e)) (λ e. c.in_err-add_line.ensures.read (ap Err e)))
+    (sym c.ends_body.ensures ∙ c.if-ends_body.false) c.line-line.ensures (λ e. c.in_err-add_line.ensures.long (ap Err e)) (λ e. c.in_err-add_line.ensures.others.0 (ap Err e)) (λ e. c.in_err-add_line.ensures.others.1 (ap Err e)))
 
 pub lines-preserved : goal.lines-preserved
 lines-preserved g c =
