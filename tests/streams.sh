@@ -99,10 +99,35 @@ check "a line that is too long" 8 $?
 check "a line that is too long behind a request" 8 $?
 same "the reply before it" out one.replies
 
-# No memory for the program's work, as far as a limit on the address space shows it: 3, and no reply.
-(ulimit -v 8192; exec "$program" run) < one.tsds > out 2> err
-status=$?
-[ "$status" -eq 0 ] && same "a small address space" out one.replies || check "a small address space" 3 "$status"
+# No memory: a body that grows past the address space ends the run, and what was answered before it stays.
+printf 'tsds: out of memory\n' > no_memory
+{ cat one.tsds; printf '\nPOST /m/_bulk\n'; yes 'a line of a body that is never done' | head -c 60000000; } > long.tsds
+(ulimit -v 65536; exec "$program" run) < long.tsds > out 2> err
+check "a body past the address space" 3 $?
+same "the reply before it" out one.replies
+same "out of memory on standard error" err no_memory
+"$program" run < long.tsds > out 2> err
+check "the same body where there is room" 0 $?
+
+# No memory for the words: the more address space there is, the further it comes. First the program can't be loaded, then it ends
+# with 3, and then it tells that these words are no command.
+if command -v prlimit > /dev/null; then
+    mapfile -t words < <(seq -f 'word%08.0f' 1 20000)
+    came=
+    for room in $(seq 2048 512 20480); do
+        prlimit --as=$((room * 1024)) "$program" "${words[@]}" < nothing > out 2> err
+        status=$?
+        [ "$status" -eq 127 ] && [ -z "$came" ] || came="$came$status"
+        [ "$status" -ne 3 ] || cp err told
+        [ "$status" -ne 2 ] || break
+    done
+    [[ $came =~ ^3+2$ ]]
+    check "no memory for the words, and then usage" 0 $?
+    same "out of memory on standard error for it" told no_memory
+    same "nothing on standard output for it" out nothing
+else
+    echo "left out: no memory for the words, which needs prlimit"
+fi
 
 echo "$failures"
 [ "$failures" -eq 0 ]
