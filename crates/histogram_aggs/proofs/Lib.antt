@@ -1,1 +1,1 @@
--- Nothing is shared between proofs yet.
+pub mod ReadingSteps

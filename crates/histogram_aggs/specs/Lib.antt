@@ -6,11 +6,15 @@ pub mod Buckets
 pub mod DownLaws
 pub mod Examples
 pub mod JoinLaws
+pub mod Kinds
 pub mod Laws
 pub mod Metrics
 pub mod PickLaws
+pub mod Reading
 pub mod Samples
 pub mod Seen
+pub mod SeenParts
+pub mod SeenWrongs
 pub mod SetLaws
 pub mod Sets
 pub mod ValueLaws

@@ -2,7 +2,13 @@
 #![tactic(auto)]
 
 mod aggs;
+mod errors;
 mod laws;
+mod reading;
+mod saying;
+mod wrongs;
 
 pub use aggs::{Agg, AggKind};
+pub use errors::AggError;
 pub use laws::{aggs_alike, alike_lists, indices_agree};
+pub use reading::read_aggs;
