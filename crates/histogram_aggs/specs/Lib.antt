@@ -8,6 +8,7 @@ pub mod Examples
 pub mod JoinLaws
 pub mod Kinds
 pub mod Laws
+pub mod MetricLaws
 pub mod Metrics
 pub mod PickLaws
 pub mod Reading
@@ -17,6 +18,8 @@ pub mod SeenParts
 pub mod SeenWrongs
 pub mod SetLaws
 pub mod Sets
+pub mod Tallies
+pub mod TallyLaws
 pub mod ValueLaws
 pub mod WholeLaws
 pub mod WidenLaws

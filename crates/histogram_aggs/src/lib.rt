@@ -4,11 +4,15 @@
 mod aggs;
 mod errors;
 mod laws;
+mod metrics;
 mod reading;
 mod saying;
+mod tallies;
 mod wrongs;
 
 pub use aggs::{Agg, AggKind};
 pub use errors::AggError;
 pub use laws::{aggs_alike, alike_lists, indices_agree};
+pub use metrics::{metric_out, told};
 pub use reading::read_aggs;
+pub use tallies::{Tally, tally_of};
