@@ -1,1 +1,3 @@
 pub mod ReadingSteps
+pub mod LevelSteps
+pub mod StateSteps

@@ -31,7 +31,7 @@ named_step aggs name said below (Some rest) =
     let agg : Agg-F Agg = record { name = name; kind = said.kind; field = said.field; subs = below } in
     ap Some (seen_before_push aggs (roll-Agg agg) rest ∙ ap (seen_before aggs) (seen_rolled agg rest))
 
-drop_here : {S : Type 0} (xs : List S) (i : ℕ) (x : S) → i < length xs → x ≡ get_or xs i x → drop i xs ≡ x ∷ drop (i + 1) xs
+pub drop_here : {S : Type 0} (xs : List S) (i : ℕ) (x : S) → i < length xs → x ≡ get_or xs i x → drop i xs ≡ x ∷ drop (i + 1) xs
 drop_here xs i x lt is = rw (add-one, drop-cons xs i x, ← is) refl
 
 -- what is wrong of one aggregation, of those below it and of those behind it

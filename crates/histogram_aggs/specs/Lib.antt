@@ -18,6 +18,7 @@ pub mod SeenParts
 pub mod SeenWrongs
 pub mod SetLaws
 pub mod Sets
+pub mod Stands
 pub mod Tallies
 pub mod TallyLaws
 pub mod ValueLaws

@@ -7,6 +7,7 @@ mod laws;
 mod metrics;
 mod reading;
 mod saying;
+mod state;
 mod tallies;
 mod wrongs;
 

@@ -105,7 +105,7 @@ impl Tally {
 }
 
 /// The metric of a kind over no values.
-fn of_none(kind: AggKind) -> Tally
+pub fn of_none(kind: AggKind) -> Tally
     ensures { result ≡ of_numbers kind [] }
 {
     match kind {

@@ -130,7 +130,7 @@ fn supports(kind: AggKind, field: &Field) -> bool
 }
 
 /// The field that an aggregation asks, if there is one at the place.
-fn field_at(fields: &[Field], place: Option<u32>) -> Option<&Field>
+pub fn field_at(fields: &[Field], place: Option<u32>) -> Option<&Field>
     ensures { option_map (λ f. f.now) result ≡ spec.field_at fields.now place }
 {
     fields.get(place? as usize)
