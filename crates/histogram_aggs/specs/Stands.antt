@@ -1,12 +1,12 @@
 -- Aggregations in memory, and the samples that they stand for.
-use Rattle.std.specs.Prelude.{◌≡◌, ℕ, zero, suc, ℤ, true, List, [], ◌∷◌, Option, Some, None}
+use Rattle.std.specs.Prelude.{◌≡◌, ℕ, zero, suc, ℤ, Bool, true, false, List, [], ◌∷◌, Option, Some, None}
 use Rattle.std.specs.Ordering.{int_cmp}
 use Rattle.std.specs.BTreeMap.{BTreeMap, get}
 use Rattle.time_text.specs.Interval.{ms_of}
 use Rattle.row_cells.specs.declared.schemas.Field.{Field}
 use Rattle.histogram_aggs.specs.declared.aggs.Agg.{Agg, out-Agg}
 use Rattle.histogram_aggs.specs.declared.aggs.AggKind.{AggKind}
-use Rattle.histogram_aggs.specs.declared.aggs.AggKind.TheVariants.{DateHistogram}
+use Rattle.histogram_aggs.specs.declared.aggs.AggKind.TheVariants.{Min, Max, Sum, ValueCount, Increase, Terms, DateHistogram}
 use Rattle.histogram_aggs.specs.declared.state.Bucket.{Bucket, out-Bucket}
 use Rattle.histogram_aggs.specs.declared.state.Node.{Node, out-Node}
 use Rattle.histogram_aggs.specs.declared.state.Node.TheOpen.{Node-F}
@@ -47,11 +47,25 @@ abbrev pub HistogramStands : Level → AggKind → Option Placed → BTreeMap �
 HistogramStands below (DateHistogram interval least) (Some f) m xs = TimesStand below (ms_of interval) m xs
 HistogramStands below kind found m xs = ⊥
 
+-- buckets of values and increases aren't added up
+abbrev pub is_added : AggKind → Bool
+is_added Min = true
+is_added Max = true
+is_added Sum = true
+is_added ValueCount = true
+is_added Increase = false
+is_added (Terms size by_key) = false
+is_added (DateHistogram interval least) = true
+
+abbrev pub IsAside : AggKind → Option Placed → Type 0
+IsAside kind None = ⊥
+IsAside kind (Some f) = is_added kind ≡ false
+
 abbrev pub NodeStands : Level → AggKind → Option Placed → Node-F Node Bucket → List Sample → Type 0
 NodeStands below kind found Node-F.Unmapped xs = IsUnmapped found
 NodeStands below kind found (Node-F.Metric tally) xs = MetricStands kind found tally xs
 NodeStands below kind found (Node-F.Times m) xs = HistogramStands below kind found m xs
-NodeStands below kind found Node-F.Aside xs = Unit {0}
+NodeStands below kind found Node-F.Aside xs = IsAside kind found
 
 -- each aggregation of a level by its node
 abbrev pub Stands : List Field → Asks → List Node → List Sample → Type 0
