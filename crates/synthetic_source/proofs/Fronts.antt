@@ -7,12 +7,12 @@ use Rattle.std.specs.Ordering.{nat_cmp, ordering_then}
 use Rattle.std.specs.declared.cmp.Ordering.TheVariants.{Equal}
 use Rattle.std.proofs.lemmas.Cmp.{nat_cmp_total}
 use Rattle.std.proofs.lemmas.List.{length-append, length-take, take-append-le, take_more, get_or-take}
-use Rattle.std.proofs.lemmas.Bool.{leb-true}
 use Rattle.std.proofs.Math.ListN.{get_or-append}
 use Rattle.row_cells.specs.declared.schemas.Field.{Field}
-use Rattle.ts_mapping.specs.Paths.{is_among, is_below, is_field_path, has_parts, first_part, reserved}
+use Rattle.ts_mapping.specs.Paths.{is_among, is_below}
 use Rattle.ts_mapping.specs.Schemas.{AreTemplateFields}
-use Rattle.ts_mapping.proofs.Sets.{first_true, none_below}
+use Rattle.row_cells.specs.Limits.{longest_path}
+use Rattle.ts_mapping.specs.PathLaws.{none_below, short_path}
 use Rattle.synthetic_source.specs.Fronts.{IsClear, IsKnown, SharesFront, held_path, path_at}
 use Rattle.synthetic_source.specs.Gathered.{paths_of}
 use Rattle.synthetic_source.specs.declared.strays.Strays.{Strays}
@@ -101,11 +101,7 @@ known_leave fields place n s t least shared clear is =
 
 -- ---- fields above
 
-short_path : (p : List ℕ) → is_field_path p ≡ true → length p ≤ 512
-unfolding is_field_path
-short_path p is = leb-true (length p) 512 (first_true (nat_le (length p) 512) (has_parts true p && not (is_among (first_part p) reserved)) is)
-
-long_nowhere : (p : List ℕ) (fs : List Field) → AreTemplateFields fs → 512 < length p → is_among p (paths_of fs) ≡ false
+long_nowhere : (p : List ℕ) (fs : List Field) → AreTemplateFields fs → longest_path < length p → is_among p (paths_of fs) ≡ false
 long_nowhere p [] are long = refl
 long_nowhere p (f ∷ fs) are long =
     ap (λ b. b || is_among p (paths_of fs)) (other_bytes p f.path differ) ∙ long_nowhere p fs are.1 long
@@ -113,7 +109,7 @@ long_nowhere p (f ∷ fs) are long =
     differ : p ≡ f.path → ⊥
     differ alike = let short = short_path f.path are.0.path in let size = ap length alike in omega (arith, short, size, long)
 
-pub none_above : (fields : List Field) (path : List ℕ) (n : ℕ) → AreTemplateFields fields → IsClear fields path n → min (length path) 513 ≤ n → list_any (λ f. is_below path f.path) fields ≡ false
+pub none_above : (fields : List Field) (path : List ℕ) (n : ℕ) → AreTemplateFields fields → IsClear fields path n → min (length path) (longest_path + 1) ≤ n → list_any (λ f. is_below path f.path) fields ≡ false
 none_above fields path n are clear far = sym (any_paths (is_below path) fields) ∙ none_below path (paths_of fields) (λ k lt dot. go k lt dot (bytes_are k n))
   where
     beyond : (k : ℕ) → k < length path → n ≤ k → is_among (take k path) (paths_of fields) ≡ false

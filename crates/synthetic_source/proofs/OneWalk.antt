@@ -1,5 +1,5 @@
 -- What a walk of a document holds.
-use Rattle.std.proofs.Common.{◌≡◌, ℕ, suc, List, [], ◌∷◌, ◌++◌, get_or, Bool, true, false, cond, ◌||◌, bytes_eq, Option, Some, None, refl, sym, ap, ◌∙◌, subst}
+use Rattle.std.proofs.Common.{◌≡◌, ◌<◌, ◌+◌, ℕ, suc, List, [], ◌∷◌, ◌++◌, add-one, drop, drop-cons, get_or, length, Bool, true, false, cond, ◌||◌, bytes_eq, Option, Some, None, refl, sym, ap, ◌∙◌, subst}
 use Rattle.std.specs.List.{list_any}
 use Rattle.std.specs.Cmp.Lexicographic.{slice_cmp}
 use Rattle.std.specs.Ordering.{nat_cmp, match_ordering}
@@ -176,3 +176,7 @@ pub settled_outcome : (schema : Schema) (strict : Bool) (d : Data) (fields : Lis
     → walked ≡ after strict fields (nothing_held fields) (listed (stops_of fields) None d) → IsSettled fields walked o → IsOutcome schema strict d o
 settled_outcome schema strict d fields walked o ascend same is settled =
     walked_outcome schema strict d fields walked walked.slots settled.stray settled.cells o time_field ascend same is refl settled.least settled.read settled.decided
+
+-- what is left of a list begins with the element at hand
+pub drop_here : {S : Type 0} (xs : List S) (i : ℕ) (x : S) → i < length xs → x ≡ get_or xs i x → drop i xs ≡ x ∷ drop (i + 1) xs
+drop_here xs i x lt is = rw (add-one, drop-cons xs i x, ← is) refl

@@ -8,6 +8,7 @@ use Rattle.serde_json.specs.Find.{as_i64, of_integer}
 use Rattle.time_text.specs.Instant.{IsInstant}
 use Rattle.time_text.specs.Printed.{instant_text}
 use Rattle.time_text.specs.PrintedLaws.{print_reads}
+use Rattle.row_cells.specs.Limits.{longest_word}
 use Rattle.row_cells.specs.declared.scalars.Scalar.{Scalar}
 use Rattle.row_cells.specs.declared.scalars.Scalar.TheVariants.{Whole, Flag, Word}
 use Rattle.row_cells.specs.declared.schemas.FieldType.{FieldType}
@@ -44,7 +45,7 @@ reads_back Date (Flag b) is = absurd is
 reads_back Date (Word t) is = absurd is
 reads_back Keyword (Whole v) is = absurd is
 reads_back Keyword (Flag b) is = absurd is
-reads_back Keyword (Word t) is = ap (λ b. option_map Word (cond b (Some t) None)) (le-leb (length t) 32766 is.1)
+reads_back Keyword (Word t) is = ap (λ b. option_map Word (cond b (Some t) None)) (le-leb (length t) longest_word is.1)
 reads_back Long (Whole v) is = whole_back Long v is (within (negsuc 9223372036854775807) (pos 9223372036854775807) v (omega (arith, ints, is)) (omega (arith, ints, is)))
 reads_back Long (Flag b) is = absurd is
 reads_back Long (Word t) is = absurd is

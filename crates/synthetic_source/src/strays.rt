@@ -19,7 +19,7 @@ ghost use Rattle.synthetic_source.specs.Walked.{comes_first as is_first, least_s
 use crate::errors::DocKind;
 use crate::gathering::search_field;
 use edge_face::NoMemory;
-use row_cells::Field;
+use row_cells::{Field, LONGEST_PATH};
 use std::alloc::Global;
 use std::cmp::Ordering;
 
@@ -41,9 +41,6 @@ pub struct Strays {
 }
 
 const DOC_COUNT: &str = "_doc_count";
-
-// The most bytes of a field's path.
-const LONGEST_PATH: usize = 512;
 
 // Whether a path begins with another and a dot, or stands before or behind all that do.
 fn side_of(path: &[u8], above: &[u8]) -> Ordering

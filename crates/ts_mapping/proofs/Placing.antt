@@ -11,7 +11,8 @@ use Rattle.row_cells.specs.Joining.{IsIn}
 use Rattle.ts_mapping.specs.Fields.{field_of, paths_of, put_field, put_if, with_fields}
 use Rattle.ts_mapping.specs.Paths.{is_among}
 use Rattle.ts_mapping.specs.Properties.{Property}
-use Rattle.ts_mapping.proofs.Sets.{or_second, swap, twice}
+use Rattle.ts_mapping.specs.PathLaws.{or_second}
+use Rattle.ts_mapping.proofs.Sets.{swap, twice}
 
 abbrev pub AllOf : (Field → Type 0) → List Field → Type 0
 AllOf P [] = Unit {0}

@@ -11,11 +11,13 @@ use Rattle.time_text.specs.Interval.{interval_of}
 use Rattle.time_text.specs.Unit.{unit_ms}
 use Rattle.time_text.specs.declared.units.Unit.{Unit as IntervalUnit}
 use Rattle.ts_mapping.specs.Faults.{first_of, given_shards, look, looks, refusal_of, shards_in}
+use Rattle.index_names.specs.Patterns.{is_pattern}
+use Rattle.ts_mapping.specs.Limits.{greatest_priority, longest_look, most_patterns, most_shards, shortest_look, usual_look_ahead, usual_look_back}
 use Rattle.ts_mapping.specs.Least.{all_faults, fault_unless}
 use Rattle.ts_mapping.specs.Properties.{properties_of}
 use Rattle.ts_mapping.specs.Ranges.{IsInRange, IsLook}
 use Rattle.ts_mapping.specs.Settings.{Setting, in_look, in_shards, look_of, settings_faults, settings_of, shards_of, shards_text, value_of}
-use Rattle.ts_mapping.specs.Shapes.{body_faults, checked_patterns, choice_faults, given_priority, in_priority, is_pattern, names_faults, patterns_of, priority_of, property_faults, shape_faults, stream_faults, template_faults}
+use Rattle.ts_mapping.specs.Shapes.{body_faults, checked_patterns, choice_faults, given_priority, in_priority, names_faults, patterns_of, priority_of, property_faults, shape_faults, stream_faults, template_faults}
 use Rattle.ts_mapping.specs.Templates.{look_at, template_of}
 use Rattle.ts_mapping.specs.Trees.{has_to_be, is_object, texts_of}
 use Rattle.ts_mapping.specs.declared.kinds.MapKind.TheVariants.{Shape}
@@ -23,26 +25,26 @@ use Rattle.ts_mapping.specs.declared.settings.Key.{Key}
 use Rattle.ts_mapping.specs.declared.settings.Key.TheVariants.{LookAhead, LookBack, Shards}
 use Rattle.ts_mapping.specs.declared.templates.Template.{Template}
 use Rattle.ts_mapping.proofs.Nothing.{first_look, first_nothing, holds, look_nothing, second_nothing}
-use Rattle.ts_mapping.proofs.Sets.{first_true, second_true}
+use Rattle.ts_mapping.specs.PathLaws.{first_true, second_true}
 
 -- ---- patterns
 
 record AreGood (ps : List (List ℕ)) : Type 0 where
   patterns : list_all is_pattern ps ≡ true
   some : 1 ≤ length ps
-  few : length ps ≤ 16
+  few : length ps ≤ most_patterns
 
 checked_good : (ps : List (List ℕ)) → is_some (checked_patterns ps) ≡ true → (checked_patterns ps ≡ Some ps) × AreGood ps
-checked_good ps some = go (nat_le 1 (length ps) && (nat_le (length ps) 16 && list_all is_pattern ps)) refl some
+checked_good ps some = go (nat_le 1 (length ps) && (nat_le (length ps) most_patterns && list_all is_pattern ps)) refl some
   where
-    go : (v : Bool) → (nat_le 1 (length ps) && (nat_le (length ps) 16 && list_all is_pattern ps)) ≡ v → is_some (cond v (Some ps) None) ≡ true → (cond v (Some ps) None ≡ Some ps) × AreGood ps
+    go : (v : Bool) → (nat_le 1 (length ps) && (nat_le (length ps) most_patterns && list_all is_pattern ps)) ≡ v → is_some (cond v (Some ps) None) ≡ true → (cond v (Some ps) None ≡ Some ps) × AreGood ps
     go true is some =
-        let rest = second_true (nat_le 1 (length ps)) (nat_le (length ps) 16 && list_all is_pattern ps) is in (
+        let rest = second_true (nat_le 1 (length ps)) (nat_le (length ps) most_patterns && list_all is_pattern ps) is in (
           refl,
           record {
-            patterns = second_true (nat_le (length ps) 16) (list_all is_pattern ps) rest;
-            some = leb-true 1 (length ps) (first_true (nat_le 1 (length ps)) (nat_le (length ps) 16 && list_all is_pattern ps) is);
-            few = leb-true (length ps) 16 (first_true (nat_le (length ps) 16) (list_all is_pattern ps) rest);
+            patterns = second_true (nat_le (length ps) most_patterns) (list_all is_pattern ps) rest;
+            some = leb-true 1 (length ps) (first_true (nat_le 1 (length ps)) (nat_le (length ps) most_patterns && list_all is_pattern ps) is);
+            few = leb-true (length ps) most_patterns (first_true (nat_le (length ps) most_patterns) (list_all is_pattern ps) rest);
           },
         )
     go false is some = cc
@@ -66,34 +68,34 @@ good_patterns body none = given_good (option_and_then texts_of (get (codes "inde
 
 -- ---- priority
 
-small_priority : (n : ℕ) → unwrap_or (in_priority n) 0 ≤ 2147483647
-small_priority n = go (nat_le n 2147483647) refl
+small_priority : (n : ℕ) → unwrap_or (in_priority n) 0 ≤ greatest_priority
+small_priority n = go (nat_le n greatest_priority) refl
   where
-    go : (v : Bool) → nat_le n 2147483647 ≡ v → unwrap_or (cond v (Some n) None) 0 ≤ 2147483647
-    go true is = leb-true n 2147483647 is
+    go : (v : Bool) → nat_le n greatest_priority ≡ v → unwrap_or (cond v (Some n) None) 0 ≤ greatest_priority
+    go true is = leb-true n greatest_priority is
     go false is = omega arith
 
-priority_in : (o : Option ℕ) → unwrap_or (option_and_then in_priority o) 0 ≤ 2147483647
+priority_in : (o : Option ℕ) → unwrap_or (option_and_then in_priority o) 0 ≤ greatest_priority
 priority_in None = omega arith
 priority_in (Some n) = small_priority n
 
-given_small : (o : Option Data) → unwrap_or (given_priority o) 0 ≤ 2147483647
+given_small : (o : Option Data) → unwrap_or (given_priority o) 0 ≤ greatest_priority
 given_small None = omega arith
 given_small (Some d) = priority_in (option_and_then as_u64 (as_number d))
 
 -- ---- shards
 
 abbrev InShards : Option ℕ → Type 0
-InShards o = (1 ≤ unwrap_or o 1) × (unwrap_or o 1 ≤ 64)
+InShards o = (1 ≤ unwrap_or o 1) × (unwrap_or o 1 ≤ most_shards)
 
 shards_one : InShards None
 shards_one = (omega arith, omega arith)
 
 shards_good : (n : ℕ) → InShards (in_shards n)
-shards_good n = go (nat_le 1 n && nat_le n 64) refl
+shards_good n = go (nat_le 1 n && nat_le n most_shards) refl
   where
-    go : (v : Bool) → (nat_le 1 n && nat_le n 64) ≡ v → InShards (cond v (Some n) None)
-    go true is = (leb-true 1 n (first_true (nat_le 1 n) (nat_le n 64) is), leb-true n 64 (second_true (nat_le 1 n) (nat_le n 64) is))
+    go : (v : Bool) → (nat_le 1 n && nat_le n most_shards) ≡ v → InShards (cond v (Some n) None)
+    go true is = (leb-true 1 n (first_true (nat_le 1 n) (nat_le n most_shards) is), leb-true n most_shards (second_true (nat_le 1 n) (nat_le n most_shards) is))
     go false is = shards_one
 
 number_good : (o : Option ℕ) → InShards (option_and_then in_shards o)
@@ -123,14 +125,14 @@ shards_are body = given_in (value_of Shards (settings_of body))
 -- ---- looks
 
 look_good : (n : ℕ) (usual : ℤ) → IsLook usual → IsLook (unwrap_or (in_look n) usual)
-look_good n usual is = go (nat_le 60000 n && nat_le n 604800000) refl
+look_good n usual is = go (nat_le shortest_look n && nat_le n longest_look) refl
   where
-    go : (v : Bool) → (nat_le 60000 n && nat_le n 604800000) ≡ v → IsLook (unwrap_or (cond v (Some (pos n)) None) usual)
+    go : (v : Bool) → (nat_le shortest_look n && nat_le n longest_look) ≡ v → IsLook (unwrap_or (cond v (Some (pos n)) None) usual)
     go true within = record {
       ms = n;
       same = refl;
-      least = leb-true 60000 n (first_true (nat_le 60000 n) (nat_le n 604800000) within);
-      most = leb-true n 604800000 (second_true (nat_le 60000 n) (nat_le n 604800000) within);
+      least = leb-true shortest_look n (first_true (nat_le shortest_look n) (nat_le n longest_look) within);
+      most = leb-true n longest_look (second_true (nat_le shortest_look n) (nat_le n longest_look) within);
     }
     go false within = is
 
@@ -145,7 +147,7 @@ look_given : (o : Option Data) (usual : ℤ) → IsLook usual → IsLook (unwrap
 look_given None usual is = is
 look_given (Some d) usual is = look_read d usual is
 
-template_looks : (key : Key) (n : ℕ) (settings : List Setting) → 60000 ≤ n → n ≤ 604800000 → IsLook (look_at key (pos n) settings)
+template_looks : (key : Key) (n : ℕ) (settings : List Setting) → shortest_look ≤ n → n ≤ longest_look → IsLook (look_at key (pos n) settings)
 template_looks key n settings low high = look_given (value_of key settings) (pos n) (record { ms = n; same = refl; least = low; most = high })
 
 of_body : (name : List ℕ) (body : Data) → refusal_of body ≡ None → IsInRange (template_of name body)
@@ -156,8 +158,8 @@ of_body name body none = let good = good_patterns body none in record {
   few = good.few;
   priority = given_small (get (codes "priority") body);
   shards = shards_are body;
-  look_back = template_looks LookBack 7200000 (settings_of body) (omega arith) (omega arith);
-  look_ahead = template_looks LookAhead 1800000 (settings_of body) (omega arith) (omega arith);
+  look_back = template_looks LookBack usual_look_back (settings_of body) (omega arith) (omega arith);
+  look_ahead = template_looks LookAhead usual_look_ahead (settings_of body) (omega arith) (omega arith);
 }
 
 pub in_range : (name : List ℕ) (body : Data) (t : Template) → refusal_of body ≡ None → t ≡ template_of name body → IsInRange t

@@ -14,6 +14,8 @@ use Rattle.row_cells.specs.Mapped.{AreDimensionsAt, ArePaths, IsDimensionAt, Pla
 use Rattle.ts_mapping.specs.Faults.{bad_entries, below_fault, clash_faults, count_faults, dimension_faults, dynamic_faults, entries_of, first_of, is_below_any, leaves_of, look, number_of_fields, repeated, role_faults, routing_faults, shards_faults, shards_in, strict_of, timestamp_faults, type_faults}
 use Rattle.ts_mapping.specs.Looks.{early_looks, late_looks}
 use Rattle.ts_mapping.specs.Fields.{added_time, dimension_paths, fields_of, has_time, is_dimension_role, is_listed, paths_of, routing_from, with_fields}
+use Rattle.row_cells.specs.Limits.{longest_path}
+use Rattle.ts_mapping.specs.Limits.{most_fields}
 use Rattle.ts_mapping.specs.Least.{all_faults, fault_unless, least}
 use Rattle.ts_mapping.specs.Paths.{first_part, has_parts, is_among, is_below, is_field_path, reserved, timestamp}
 use Rattle.ts_mapping.specs.Properties.{Property, properties_of}
@@ -26,7 +28,7 @@ use Rattle.ts_mapping.specs.Shapes.{body_faults, property_faults, shape_faults, 
 use Rattle.ts_mapping.specs.declared.kinds.MapKind.TheVariants.{BadShards, BadDynamic, UnknownType, TooManyFields, PathClash, BadTimestamp, BadRole, NoDimension, BadRouting}
 use Rattle.ts_mapping.proofs.Nothing.{first_look, first_nothing, holds, later_looks, look_nothing, no_paths, second_nothing}
 use Rattle.ts_mapping.proofs.Placing.{AllBy, AllOf, field_paths, of_all, with_all, with_ascends, with_gets, with_keeps, with_length}
-use Rattle.ts_mapping.proofs.Sets.{exact, first_true, in_any, itself, or_second, second_true}
+use Rattle.ts_mapping.specs.PathLaws.{exact, first_true, in_any, itself, or_second, second_true, short_path}
 use Rattle.ts_mapping.proofs.Sound.{AreSound, all_fields, all_sent, all_template, sound, sound_leaves}
 
 -- ---- the field of the time
@@ -92,7 +94,7 @@ timed ps are roles = time_in (fields_of ps) (all_are_template ps are) (go (has_t
 
 some_path : (p : List ℕ) → is_field_path p ≡ true → 0 < length p
 unfolding is_field_path
-some_path [] is = absurd (no (second_true (nat_le 0 512) false is))
+some_path [] is = absurd (no (second_true (nat_le 0 longest_path) false is))
   where
     no : false ≡ true → ⊥
     no e = cc
@@ -101,10 +103,6 @@ some_path (b ∷ p) is = omega arith
 after_nothing : (p : List ℕ) → 0 < length p → IsBefore [] p
 after_nothing [] some = absurd (omega (arith, some))
 after_nothing (b ∷ p) some = refl
-
-short_path : (p : List ℕ) → is_field_path p ≡ true → length p ≤ 512
-unfolding is_field_path
-short_path p is = leb-true (length p) 512 (first_true (nat_le (length p) 512) (has_parts true p && not (is_among (first_part p) reserved)) is)
 
 are_paths : (fs : List Field) → AllOf IsTemplateField fs → AreTexts fs → ArePaths fs
 are_paths [] all texts = tt
@@ -122,11 +120,11 @@ ascending ps are = with_ascends (added_time ps) ps (go (has_time ps)) (by_templa
     go true = tt
     go false = (refl, tt)
 
-few : (ps : List Property) → number_of_fields ps ≤ 1000 → length (fields_of ps) ≤ 1000
+few : (ps : List Property) → number_of_fields ps ≤ most_fields → length (fields_of ps) ≤ most_fields
 unfolding fields_of
 few ps within = go (has_time ps) refl (with_length (added_time ps) ps)
   where
-    go : (v : Bool) → has_time ps ≡ v → length (with_fields (added_time ps) ps) ≤ length (added_time ps) + length ps → length (with_fields (added_time ps) ps) ≤ 1000
+    go : (v : Bool) → has_time ps ≡ v → length (with_fields (added_time ps) ps) ≤ length (added_time ps) + length ps → length (with_fields (added_time ps) ps) ≤ most_fields
     go true e least = omega (arith, within, least, ap (λ w. length (if w then [] else time_field ∷ [])) e, ap (λ w. if w then length ps else length ps + 1) e)
     go false e least = omega (arith, within, least, ap (λ w. length (if w then [] else time_field ∷ [])) e, ap (λ w. if w then length ps else length ps + 1) e)
 
@@ -277,7 +275,7 @@ routed fs (Some (e ∷ es)) dimensions none =
 
 -- ---- the whole
 
-pub schema_is : (ps : List Property) (entries : Option (List (List ℕ))) → AreSound ps → number_of_fields ps ≤ 1000 → clash_faults ps ≡ [] → role_faults ps ≡ [] → dimension_faults (fields_of ps) ≡ [] → routing_faults (fields_of ps) entries ≡ [] → AreTexts (fields_of ps) → IsTemplateSchema (schema_with (fields_of ps) entries)
+pub schema_is : (ps : List Property) (entries : Option (List (List ℕ))) → AreSound ps → number_of_fields ps ≤ most_fields → clash_faults ps ≡ [] → role_faults ps ≡ [] → dimension_faults (fields_of ps) ≡ [] → routing_faults (fields_of ps) entries ≡ [] → AreTexts (fields_of ps) → IsTemplateSchema (schema_with (fields_of ps) entries)
 schema_is ps entries are within clashes roles dimensions routing texts =
     let fs = fields_of ps in
     let all = all_are_template ps are in
@@ -299,7 +297,7 @@ sound_body body none =
     let nowhere = no_paths (shape_faults body) none in
     sound_leaves (properties_of body) (sound (properties_of body) (second_nothing (body_faults body ++ template_faults body ++ settings_faults (settings_of body)) (all_faults property_faults (properties_of body)) nowhere))
 
-few_body : (body : Data) → first_of (early_looks body) ≡ None → number_of_fields (leaves_of body) ≤ 1000
+few_body : (body : Data) → first_of (early_looks body) ≡ None → number_of_fields (leaves_of body) ≤ most_fields
 unfolding count_faults
 few_body body none =
     let ps = leaves_of body in
@@ -308,9 +306,9 @@ few_body body none =
     let types = look UnknownType (type_faults ps) in
     let count = look TooManyFields (count_faults ps) in
     let beyond_types = later_looks types (count ∷ []) (later_looks dynamic (types ∷ count ∷ []) (later_looks shards (dynamic ∷ types ∷ count ∷ []) none)) in
-    leb-true (number_of_fields ps) 1000 (holds (nat_le (number_of_fields ps) 1000) [] (look_nothing TooManyFields (count_faults ps) (first_look count [] beyond_types)))
+    leb-true (number_of_fields ps) most_fields (holds (nat_le (number_of_fields ps) 1000) [] (look_nothing TooManyFields (count_faults ps) (first_look count [] beyond_types)))
 
-pub body_fields : (body : Data) → first_of (early_looks body) ≡ None → length (fields_of (leaves_of body)) ≤ 1000
+pub body_fields : (body : Data) → first_of (early_looks body) ≡ None → length (fields_of (leaves_of body)) ≤ most_fields
 body_fields body none = few (leaves_of body) (few_body body none)
 
 -- the schema of a body that no look refuses

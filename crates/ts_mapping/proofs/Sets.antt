@@ -15,6 +15,7 @@ use Rattle.ts_mapping.specs.Faults.{bad_entries, below_fault, clash_faults, entr
 use Rattle.ts_mapping.specs.Fields.{is_dimension_role, paths_of, routing_from}
 use Rattle.ts_mapping.specs.Least.{all_faults, fault_unless, least, least_with}
 use Rattle.ts_mapping.proofs.LeastLemmas.{least_with_append}
+use Rattle.ts_mapping.specs.PathLaws.{any_in, in_any, not_both}
 use Rattle.ts_mapping.specs.Paths.{is_among, is_below, timestamp}
 use Rattle.ts_mapping.specs.Properties.{Property}
 
@@ -58,84 +59,6 @@ pub has_inserted : (q : List ℕ) (k : Vec ℕ Global) (ks : List (Vec ℕ Globa
 has_inserted q k [] = refl
 has_inserted q k (x ∷ xs) = has_placed q k x xs _ refl (has_inserted q k xs)
 
--- ---- paths below others
-
-and_true : (a b : Bool) → a ≡ true → b ≡ true → (a && b) ≡ true
-and_true a b p q = rw (p, q) refl
-
-pub first_true : (a b : Bool) → (a && b) ≡ true → a ≡ true
-first_true true b h = refl
-first_true false b h = h
-
-pub second_true : (a b : Bool) → (a && b) ≡ true → b ≡ true
-second_true true b h = h
-second_true false b h = cc
-
-first_false : (a b : Bool) → (a || b) ≡ false → a ≡ false
-first_false true b h = h
-first_false false b h = refl
-
-second_false : (a b : Bool) → (a || b) ≡ false → b ≡ false
-second_false true b h = cc
-second_false false b h = h
-
-not_both : (b : Bool) → b ≡ true → b ≡ false → ⊥
-not_both b t f = cc
-
--- p lies below what stands before a dot in it
-below_front : (p : List ℕ) (i : ℕ) → i < length p → get_or p i 0 ≡ 46 → is_below p (take i p) ≡ true
-below_front [] i lt dot = absurd (omega (arith, lt))
-below_front (b ∷ p) zero lt dot = eq-eqb b 46 dot
-below_front (b ∷ p) (suc i) lt dot = and_true (b == b) (is_below p (take i p)) (eq-eqb b b refl) (below_front p i (omega (arith, lt)) dot)
-
--- what p lies below stands in it before a dot
-record IsFront (p q : List ℕ) : Type 0 where
-  short : length q < length p
-  dot : get_or p (length q) 0 ≡ 46
-  front : take (length q) p ≡ q
-
-front_of_below : (p q : List ℕ) → is_below p q ≡ true → IsFront p q
-front_of_below [] q h = cc
-front_of_below (b ∷ p) [] h = record { short = omega arith; dot = eqb-true b 46 h; front = refl }
-front_of_below (b ∷ p) (c ∷ q) h =
-    let later = front_of_below p q (second_true (b == c) (is_below p q) h) in
-    let same : b ≡ c = eqb-true b c (first_true (b == c) (is_below p q) h) in
-    record { short = omega (arith, later.short); dot = later.dot; front = rw (same, later.front) refl }
-
-pub or_second : (a b : Bool) → b ≡ true → (a || b) ≡ true
-or_second true b h = refl
-or_second false b h = h
-
-pub itself : (p : List ℕ) → bytes_eq p p ≡ true
-itself p = (bytes_eq-Decides p p).1 refl
-
-pub exact : (p q : List ℕ) → bytes_eq p q ≡ true → p ≡ q
-exact p q h = (bytes_eq-Decides p q).0 h
-
--- a test that one of some paths passes
-pub in_any : (f : List ℕ → Bool) (q : List ℕ) (ps : List (List ℕ)) → is_among q ps ≡ true → f q ≡ true → list_any f ps ≡ true
-in_any f q [] is pass = cc
-in_any f q (p ∷ ps) is pass = go (bytes_eq q p) refl is (in_any f q ps)
-  where
-    go : (v : Bool) → bytes_eq q p ≡ v → (v || is_among q ps) ≡ true → (is_among q ps ≡ true → f q ≡ true → list_any f ps ≡ true) → (f p || list_any f ps) ≡ true
-    go true same h later = let one : f p ≡ true = subst (λ r. f r ≡ true) (exact q p same) pass in rw one refl
-    go false same h later = or_second (f p) (list_any f ps) (later h pass)
-
-record Passes (f : List ℕ → Bool) (ps : List (List ℕ)) : Type 0 where
-  path : List ℕ
-  among : is_among path ps ≡ true
-  pass : f path ≡ true
-
-any_in : (f : List ℕ → Bool) (ps : List (List ℕ)) → list_any f ps ≡ true → Passes f ps
-any_in f [] h = cc
-any_in f (p ∷ ps) h = go (f p) refl h (any_in f ps)
-  where
-    go : (v : Bool) → f p ≡ v → (v || list_any f ps) ≡ true → (list_any f ps ≡ true → Passes f ps) → Passes f (p ∷ ps)
-    go true is h later = record { path = p; among = rw (itself p) refl; pass = is }
-    go false is h later =
-        let one = later h in
-        record { path = one.path; among = or_second (bytes_eq one.path p) (is_among one.path ps) one.among; pass = one.pass }
-
 -- two lists with the same paths
 abbrev pub SamePaths : List (List ℕ) → List (List ℕ) → Type 0
 SamePaths ps qs = (q : List ℕ) → is_among q ps ≡ is_among q qs
@@ -149,21 +72,6 @@ any_same f ps qs same = go (list_any f ps) (list_any f qs) refl refl
     go false false p q = p ∙ sym q
     go true false p q = let one = any_in f ps p in absurd (not_both (list_any f qs) (in_any f one.path qs (sym (same one.path) ∙ one.among) one.pass) q)
     go false true p q = let one = any_in f qs q in absurd (not_both (list_any f ps) (in_any f one.path ps (same one.path ∙ one.among) one.pass) p)
-
--- a front before a dot that is among some paths lies above
-pub some_below : (p : List ℕ) (i : ℕ) (ps : List (List ℕ)) → i < length p → get_or p i 0 ≡ 46 → is_among (take i p) ps ≡ true → list_any (is_below p) ps ≡ true
-some_below p i ps lt dot is = in_any (is_below p) (take i p) ps is (below_front p i lt dot)
-
--- and where no such front is among them, nothing does
-pub none_below : (p : List ℕ) (ps : List (List ℕ)) → ((k : ℕ) → k < length p → get_or p k 0 ≡ 46 → is_among (take k p) ps ≡ false) → list_any (is_below p) ps ≡ false
-none_below p ps none = go (list_any (is_below p) ps) refl
-  where
-    go : (v : Bool) → list_any (is_below p) ps ≡ v → list_any (is_below p) ps ≡ false
-    go false is = is
-    go true is =
-        let one = any_in (is_below p) ps is in
-        let front = front_of_below p one.path one.pass in
-        absurd (not_both (is_among one.path ps) one.among (subst (λ q. is_among q ps ≡ false) front.front (none (length one.path) front.short front.dot)))
 
 -- ---- looks that only ask which paths stand before
 

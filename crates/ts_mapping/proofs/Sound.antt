@@ -17,7 +17,7 @@ use Rattle.ts_mapping.specs.Shapes.{property_faults, value_faults}
 use Rattle.ts_mapping.specs.Trees.{is_text}
 use Rattle.ts_mapping.proofs.Nothing.{first_nothing, holds, second_nothing}
 use Rattle.ts_mapping.proofs.Placing.{AllBy, AreAllFields}
-use Rattle.ts_mapping.proofs.Sets.{exact, itself, or_second}
+use Rattle.ts_mapping.specs.PathLaws.{exact, itself, or_second}
 
 -- ---- properties whose paths fields may have
 

@@ -6,6 +6,7 @@ use Rattle.row_cells.specs.declared.schemas.FieldType.{FieldType}
 use Rattle.row_cells.specs.declared.schemas.Field.{Field}
 use Rattle.ts_mapping.specs.Fields.{dimension_paths, fields_of, has_time, is_dimension, kind_of, metric_named, metric_of, paths_of, role_of}
 use Rattle.ts_mapping.specs.Least.{all_faults, fault_unless, least}
+use Rattle.ts_mapping.specs.Limits.{most_fields}
 use Rattle.ts_mapping.specs.Paths.{is_among, is_below, timestamp}
 use Rattle.ts_mapping.specs.Properties.{Property, leaves_in, mappings_of, properties_of}
 use Rattle.ts_mapping.specs.Roles.{is_date}
@@ -69,7 +70,7 @@ abbrev pub number_of_fields : List Property → ℕ
 number_of_fields ps = if has_time ps then length ps else length ps + 1
 
 unfoldable pub count_faults : List Property → List (List ℕ)
-count_faults ps = fault_unless (nat_le (number_of_fields ps) 1000) []
+count_faults ps = fault_unless (nat_le (number_of_fields ps) most_fields) []
 
 -- the paths that stand in the list before, or among those that stand before the list
 abbrev pub repeated : List (List ℕ) → List (List ℕ) → List (List ℕ)

@@ -2,8 +2,10 @@ pub mod Faults
 pub mod Fields
 pub mod Least
 pub mod LeastLaws
+pub mod Limits
 pub mod Looks
 pub mod Outcomes
+pub mod PathLaws
 pub mod Paths
 pub mod Properties
 pub mod Ranges

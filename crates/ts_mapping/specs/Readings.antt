@@ -11,6 +11,7 @@ use Rattle.row_cells.specs.declared.scalars.Scalar.{Scalar}
 use Rattle.row_cells.specs.declared.scalars.Scalar.TheVariants.{Whole, Flag, Word}
 use Rattle.row_cells.specs.declared.schemas.FieldType.{FieldType}
 use Rattle.row_cells.specs.declared.schemas.FieldType.TheVariants.{Date, Keyword, Long, Integer, Short, Byte, Boolean, Aggregate}
+use Rattle.row_cells.specs.Limits.{longest_word}
 use Rattle.time_text.specs.Instant.{in_range, instant_of}
 use Rattle.time_text.specs.Shape.{◌>>=◌}
 
@@ -69,7 +70,7 @@ abbrev pub keyword_of : Data → Option (List ℕ)
 keyword_of null = None
 keyword_of (boolean b) = Some (flag_text b)
 keyword_of (number n) = option_map signed_decimal (as_integer n)
-keyword_of (string s) = if nat_le (length s) 32766 then Some s else None
+keyword_of (string s) = if nat_le (length s) longest_word then Some s else None
 keyword_of (array ds) = None
 keyword_of (object ms) = None
 

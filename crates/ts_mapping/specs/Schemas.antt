@@ -6,6 +6,7 @@ use Rattle.row_cells.specs.declared.schemas.Field.{Field}
 use Rattle.row_cells.specs.declared.schemas.Schema.{Schema}
 use Rattle.row_cells.specs.Joining.{IsIn}
 use Rattle.row_cells.specs.Mapped.{IsMapped, PlacesAscend}
+use Rattle.ts_mapping.specs.Limits.{most_fields}
 use Rattle.ts_mapping.specs.Paths.{is_below, is_field_path, timestamp}
 use Rattle.ts_mapping.specs.Roles.{may_have}
 
@@ -27,13 +28,13 @@ AreApart fs = (f g : Field) → IsIn f fs → IsIn g fs → is_below f.path g.pa
 abbrev pub time_field : Field
 time_field = record { path = timestamp; kind = Date; role = Time }
 
--- A schema of a template, whatever `folded` and `rises`: mapped, with the time among its 1 to 1,000 fields, and one or more
+-- A schema of a template, whatever `folded` and `rises`: mapped, with the time among its few fields, and one or more
 -- routing fields, whose places ascend.
 pub record IsTemplateSchema (schema : Schema) : Type 0 where
   pub mapped : IsMapped schema
   pub fields : AreTemplateFields schema.fields
   pub apart : AreApart schema.fields
   pub timed : IsIn time_field schema.fields
-  pub few : length schema.fields ≤ 1000
+  pub few : length schema.fields ≤ most_fields
   pub routing_ascends : PlacesAscend (length schema.fields) schema.routing
   pub routed : 0 < length schema.routing

@@ -8,6 +8,7 @@ use Rattle.json_walk.specs.Path.{below}
 use Rattle.time_text.specs.Interval.{interval_of}
 use Rattle.time_text.specs.Unit.{unit_ms}
 use Rattle.ts_mapping.specs.Least.{fault_unless, all_faults, under}
+use Rattle.ts_mapping.specs.Limits.{longest_look, most_shards, shortest_look}
 use Rattle.ts_mapping.specs.Paths.{is_among}
 use Rattle.ts_mapping.specs.Trees.{is_text, texts_of, member_of}
 use Rattle.ts_mapping.specs.declared.settings.Key.{Key}
@@ -84,14 +85,14 @@ value_of key (s ∷ settings) = if has_key key s then Some s.value else value_of
 -- ---- values
 
 abbrev pub in_look : ℕ → Option ℤ
-in_look ms = if nat_le 60_000 ms && nat_le ms 604_800_000 then Some (pos ms) else None
+in_look ms = if nat_le shortest_look ms && nat_le ms longest_look then Some (pos ms) else None
 
 -- a time to look back or ahead: the text of an interval of one minute to seven days
 abbrev pub look_of : Data → Option ℤ
 look_of d = option_and_then (λ i. in_look (i.0 * unit_ms i.1)) (option_and_then interval_of (as_str d))
 
 abbrev pub in_shards : ℕ → Option ℕ
-in_shards n = if nat_le 1 n && nat_le n 64 then Some n else None
+in_shards n = if nat_le 1 n && nat_le n most_shards then Some n else None
 
 -- one or two digits without a leading zero
 abbrev pub shards_text : List ℕ → Option ℕ

@@ -1,13 +1,13 @@
 -- The shape of a template's body.
-use Rattle.std.specs.Prelude.{ℕ, ◌-◌, ◌==◌, Bool, true, false, ◌&&◌, ◌||◌, nat_le, List, [], ◌∷◌, ◌++◌, length, take, codes, if◌then◌else◌, Option, Some, None, option_and_then, is_some, is_none}
-use Rattle.std.specs.Io.BufRead.{ends_with_byte}
+use Rattle.std.specs.Prelude.{ℕ, ◌==◌, Bool, true, false, ◌&&◌, nat_le, List, [], ◌∷◌, ◌++◌, length, codes, if◌then◌else◌, Option, Some, None, option_and_then, is_some, is_none}
 use Rattle.std.specs.List.{list_all}
 use Rattle.serde_json.specs.Data.{Data}
 use Rattle.serde_json.specs.Find.{get, as_u64, as_number}
-use Rattle.index_names.specs.Names.{is_stream_name}
+use Rattle.index_names.specs.Patterns.{is_pattern}
 use Rattle.row_cells.specs.declared.schemas.FieldType.{FieldType}
 use Rattle.ts_mapping.specs.Fields.{kind_of}
 use Rattle.ts_mapping.specs.Least.{all_faults, fault_unless, under}
+use Rattle.ts_mapping.specs.Limits.{greatest_priority, most_patterns}
 use Rattle.ts_mapping.specs.Paths.{is_among, is_field_path}
 use Rattle.ts_mapping.specs.Properties.{Property, mappings_of, properties_of}
 use Rattle.ts_mapping.specs.Roles.{is_aggregate}
@@ -16,24 +16,15 @@ use Rattle.ts_mapping.specs.Trees.{has_to_be, is_empty_list, is_flag, is_object,
 
 -- ---- the members of the body
 
--- a `*` with nothing before it, or the name of a stream of at most 99 bytes
-abbrev pub is_front_pattern : List ℕ → Bool
-is_front_pattern p =
-    ends_with_byte 42 p && (nat_le (length p) 1 || (nat_le (length p) 100 && is_stream_name (take (length p - 1) p)))
-
--- a pattern for the names of streams
-unfoldable pub is_pattern : List ℕ → Bool
-is_pattern p = is_stream_name p || is_front_pattern p
-
 abbrev pub checked_patterns : List (List ℕ) → Option (List (List ℕ))
-checked_patterns ps = if nat_le 1 (length ps) && (nat_le (length ps) 16 && list_all is_pattern ps) then Some ps else None
+checked_patterns ps = if nat_le 1 (length ps) && (nat_le (length ps) most_patterns && list_all is_pattern ps) then Some ps else None
 
 -- the patterns of a body: a pattern or a list of 1 to 16
 unfoldable pub patterns_of : Data → Option (List (List ℕ))
 patterns_of body = option_and_then checked_patterns (option_and_then texts_of (get (codes "index_patterns") body))
 
 abbrev pub in_priority : ℕ → Option ℕ
-in_priority n = if nat_le n 2147483647 then Some n else None
+in_priority n = if nat_le n greatest_priority then Some n else None
 
 abbrev pub given_priority : Option Data → Option ℕ
 given_priority None = Some 0

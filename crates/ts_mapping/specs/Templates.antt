@@ -5,6 +5,7 @@ use Rattle.row_cells.specs.declared.schemas.Field.{Field}
 use Rattle.row_cells.specs.declared.schemas.Schema.{Schema}
 use Rattle.ts_mapping.specs.Faults.{entries_of, leaves_of, refusal_of, shards_in, strict_of}
 use Rattle.ts_mapping.specs.Fields.{fields_of, routing_from}
+use Rattle.ts_mapping.specs.Limits.{usual_look_ahead, usual_look_back}
 use Rattle.ts_mapping.specs.Settings.{Setting, look_of, settings_of, value_of}
 use Rattle.ts_mapping.specs.Shapes.{patterns_of, priority_of}
 use Rattle.ts_mapping.specs.declared.settings.Key.{Key}
@@ -33,8 +34,8 @@ template_of name body = record {
   priority = unwrap_or (priority_of body) 0;
   strict = unwrap_or (strict_of body) true;
   shards = unwrap_or (shards_in body) 1;
-  look_back = look_at LookBack (pos 7_200_000) (settings_of body);
-  look_ahead = look_at LookAhead (pos 1_800_000) (settings_of body);
+  look_back = look_at LookBack (pos usual_look_back) (settings_of body);
+  look_ahead = look_at LookAhead (pos usual_look_ahead) (settings_of body);
   schema = schema_of body;
 }
 

@@ -2,50 +2,25 @@
 ghost use Rattle.std.specs.Prelude.{◌≡◌, ◌++◌, IfOk, OnOk, map, option_map};
 ghost use Rattle.std.specs.List.{list_all};
 ghost use Rattle.serde_json.specs.View.{view};
+ghost use Rattle.index_names.specs.Patterns.{is_pattern as is_pattern_of};
 ghost use Rattle.ts_mapping.specs.Least.{fault_unless, least_with};
 ghost use Rattle.ts_mapping.specs.Seen.{seen};
 ghost use Rattle.ts_mapping.specs.Properties.{mappings_of as mappings_in};
 ghost use Rattle.ts_mapping.specs.Shapes as spec;
 
 use crate::least::Least;
+use crate::limits::{GREATEST_PRIORITY, MOST_PATTERNS};
 use crate::trees::{
     check_names, has_to_be_object, is_object, may_be_empty_list, may_be_object, member, texts,
 };
 use edge_face::{NoMemory, Text};
-use index_names::is_stream_name;
+use index_names::is_pattern;
 use serde_json::Value;
 use sqlite_items::Items;
 use std::alloc::Global;
 
-/// The most patterns that a template has.
-const PATTERNS_LIMIT: usize = 16;
-
-/// The most bytes of a pattern that ends in `*`.
-const FRONT_LIMIT: usize = 100;
-
-const PRIORITY_LIMIT: u64 = 2_147_483_647;
-
-/// Whether a pattern is `*` with nothing or a name before it.
-fn is_front_pattern(pattern: &[u8]) -> bool
-    ensures { result ≡ spec.is_front_pattern pattern.now }
-{
-    match pattern.split_last() {
-        Some((last, front)) if *last == b'*' => {
-            pattern.len() <= 1 || (pattern.len() <= FRONT_LIMIT && is_stream_name(front))
-        }
-        _ => false,
-    }
-}
-
-#[tactic(auto, unfolding(crate::specs::Shapes::is_pattern))]
-fn is_pattern(pattern: &[u8]) -> bool
-    ensures { result ≡ spec.is_pattern pattern.now }
-{
-    is_stream_name(pattern) || is_front_pattern(pattern)
-}
-
 fn are_patterns(patterns: &[Text]) -> bool
-    ensures { result ≡ list_all spec.is_pattern patterns.now }
+    ensures { result ≡ list_all is_pattern_of patterns.now }
 {
     patterns
         .iter()
@@ -64,7 +39,7 @@ pub fn patterns(alloc: Global, body: &Value) -> Result<Option<Items<Text>>, NoMe
         return Ok(None);
     };
     let number = patterns.len();
-    if 1 <= number && number <= PATTERNS_LIMIT && are_patterns(patterns.as_slice()) {
+    if 1 <= number && number <= MOST_PATTERNS && are_patterns(patterns.as_slice()) {
         Ok(Some(patterns))
     } else {
         Ok(None)
@@ -80,7 +55,7 @@ pub fn priority(body: &Value) -> Option<u32>
         return Some(0);
     };
     let number = value.as_u64()?;
-    if number <= PRIORITY_LIMIT {
+    if number <= GREATEST_PRIORITY {
         Some(number as u32)
     } else {
         None

@@ -10,6 +10,7 @@ ghost use Rattle.ts_mapping.specs.declared.settings.Key.TheVariants.{Shards};
 use crate::body::mappings;
 use crate::clashes::clash;
 use crate::kinds::MapKind;
+use crate::limits::MOST_FIELDS;
 use crate::looks::{Demand, failing, number_of_fields};
 use crate::properties::PropertyAt;
 use crate::routing::{bad_entry, has_dimension};
@@ -19,9 +20,6 @@ use edge_face::{NoMemory, Text};
 use row_cells::Field;
 use serde_json::Value;
 use std::alloc::Global;
-
-/// The most fields that a template has, with `@timestamp`.
-const FIELDS_LIMIT: usize = 1_000;
 
 /// A kind of fault, and the least path that has it.
 #[derive(Drop)]
@@ -97,7 +95,7 @@ pub fn type_fault(
             path,
         }));
     }
-    if number_of_fields(properties) > FIELDS_LIMIT {
+    if number_of_fields(properties) > MOST_FIELDS {
         return named(alloc, MapKind::TooManyFields, "");
     }
     Ok(None)

@@ -9,6 +9,7 @@ mod gathering;
 mod kinds;
 mod laws;
 mod least;
+mod limits;
 mod looks;
 mod making;
 mod numbers;
@@ -24,5 +25,9 @@ mod trees;
 
 pub use kinds::MapKind;
 pub use laws::least_is_least;
+pub use limits::{
+    GREATEST_PRIORITY, LONGEST_LOOK, MOST_FIELDS, MOST_PATTERNS, MOST_SHARDS, SHORTEST_LOOK,
+    USUAL_LOOK_AHEAD, USUAL_LOOK_BACK,
+};
 pub use readings::{read_aggregate, read_scalar};
 pub use templates::{MapError, Mapping, Template, read_template};

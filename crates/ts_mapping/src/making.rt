@@ -5,6 +5,7 @@ ghost use Rattle.ts_mapping.specs.Faults.{entries_of, first_of, leaves_of};
 ghost use Rattle.ts_mapping.specs.Looks.{early_looks};
 ghost use Rattle.ts_mapping.specs.Fields.{fields_of};
 ghost use Rattle.ts_mapping.specs.Least.{least};
+ghost use Rattle.ts_mapping.specs.Limits.{most_fields};
 ghost use Rattle.ts_mapping.specs.Outcomes.{AreTexts, IsReadAs};
 ghost use Rattle.ts_mapping.specs.Seen.{properties_seen, settings_seen};
 ghost use Rattle.ts_mapping.specs.Settings.{settings_of};
@@ -15,6 +16,7 @@ use crate::body::{patterns, priority};
 use crate::faults::{Fault, later_fault, shards, strict};
 use crate::fields::fields;
 use crate::gathering::{Gathered, gather};
+use crate::limits::{USUAL_LOOK_AHEAD, USUAL_LOOK_BACK};
 use crate::properties::PropertyAt;
 use crate::routing::{entries, routing};
 use crate::settings::{Key, SettingAt, look_of, value_of};
@@ -24,12 +26,6 @@ use row_cells::{Field, Schema};
 use serde_json::Value;
 use sqlite_items::Items;
 use std::alloc::Global;
-
-/// Two hours.
-const USUAL_LOOK_BACK: i64 = 7_200_000;
-
-/// Half an hour.
-const USUAL_LOOK_AHEAD: i64 = 1_800_000;
 
 /// What a body was read as.
 #[derive(Drop)]
@@ -59,7 +55,7 @@ fn slice_of(entries: &Option<Items<Text>>) -> Option<&[Text]>
 
 /// The schema of some fields.
 fn schema(alloc: Global, fields: Items<Field>, entries: Option<&[Text]>) -> Result<Schema, NoMemory>
-    requires { length fields ≤ 1000 }
+    requires { length fields ≤ most_fields }
     ensures { IfOk result (λ schema. schema ≡ spec.schema_with fields (option_map (λ es. es.now) entries.entry)) }
 {
     let routing = routing(alloc, fields.as_slice(), entries)?;

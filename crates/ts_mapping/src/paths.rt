@@ -2,8 +2,7 @@
 ghost use Rattle.std.specs.Prelude.{◌≡◌, true};
 ghost use Rattle.ts_mapping.specs.Paths as spec;
 
-/// The most bytes that a path has.
-const PATH_LIMIT: usize = 512;
+use row_cells::LONGEST_PATH;
 
 /// Whether no part between dots is empty.
 fn has_parts(path: &[u8]) -> bool
@@ -51,5 +50,5 @@ fn is_reserved(name: &[u8]) -> bool
 pub fn is_field_path(path: &[u8]) -> bool
     ensures { result ≡ spec.is_field_path path.now }
 {
-    path.len() <= PATH_LIMIT && has_parts(path) && !is_reserved(first_part(path))
+    path.len() <= LONGEST_PATH && has_parts(path) && !is_reserved(first_part(path))
 }

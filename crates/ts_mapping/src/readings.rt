@@ -4,6 +4,7 @@ ghost use Rattle.std.specs.Fmt.{signed_decimal};
 ghost use Rattle.serde_json.specs.Find.{as_integer};
 ghost use Rattle.serde_json.specs.View.{number_view, view};
 ghost use Rattle.row_cells.specs.Fitting.{IsAggregate, IsValueOf};
+ghost use Rattle.row_cells.specs.Limits.{longest_word};
 ghost use Rattle.time_text.specs.Instant.{IsInstant, in_range as in_instants};
 ghost use Rattle.ts_mapping.specs.Readings as spec;
 ghost use Rattle.ts_mapping.specs.Readings.{aggregate_of, reading_of};
@@ -14,13 +15,10 @@ use edge_face::{NoMemory, Text};
 use fold_law::Parts;
 use itoa::Buffer;
 use json_walk::{has_names, whole};
-use row_cells::{FieldType, Scalar};
+use row_cells::{FieldType, LONGEST_WORD, Scalar};
 use serde_json::{Number, Value};
 use std::alloc::Global;
 use time_text::{is_instant, read_instant};
-
-/// The most bytes that a keyword has.
-const KEYWORD_LIMIT: usize = 32_766;
 
 fn date_of(leaf: &Value) -> Option<i64>
     ensures value { result ≡ spec.date_of (view leaf.now) }
@@ -48,7 +46,7 @@ fn flag_text(flag: bool) -> &'static str
 
 fn number_text(alloc: Global, number: &Number) -> Result<Option<Text>, NoMemory>
     ensures value { IfOk result (λ read. read ≡ option_map signed_decimal (as_integer (number_view number.now))) }
-    ensures fits { IfOk result (λ read. IfSome read (λ t. IsUtf8 t × (length t ≤ 32766))) }
+    ensures fits { IfOk result (λ read. IfSome read (λ t. IsUtf8 t × (length t ≤ longest_word))) }
 {
     let mut buffer = Buffer::new();
     if let Some(natural) = number.as_u64() {
@@ -63,12 +61,12 @@ fn number_text(alloc: Global, number: &Number) -> Result<Option<Text>, NoMemory>
 /// The keyword that a leaf writes.
 fn keyword_of(alloc: Global, leaf: &Value) -> Result<Option<Text>, NoMemory>
     ensures value { IfOk result (λ read. read ≡ spec.keyword_of (view leaf.now)) }
-    ensures fits { IfOk result (λ read. IfSome read (λ t. IsUtf8 t × (length t ≤ 32766))) }
+    ensures fits { IfOk result (λ read. IfSome read (λ t. IsUtf8 t × (length t ≤ longest_word))) }
 {
     match leaf {
         Value::Bool(flag) => Ok(Some(Text::new(alloc, flag_text(*flag))?)),
         Value::Number(number) => number_text(alloc, number),
-        Value::String(text) if text.len() <= KEYWORD_LIMIT => {
+        Value::String(text) if text.len() <= LONGEST_WORD => {
             Ok(Some(Text::new(alloc, text.as_str())?))
         }
         _ => Ok(None),

@@ -3,6 +3,7 @@ ghost use Rattle.std.specs.Prelude.{◌≡◌, ◌∷◌, ◌≤◌, ◌&&◌, �
 ghost use Rattle.ts_mapping.specs.Faults as spec;
 ghost use Rattle.ts_mapping.specs.Fields as fields;
 ghost use Rattle.ts_mapping.specs.Least.{fault_unless, least, least_with};
+ghost use Rattle.ts_mapping.specs.Limits.{most_fields};
 ghost use Rattle.ts_mapping.specs.Paths.{is_among};
 ghost use Rattle.ts_mapping.specs.Seen.{settings_seen};
 ghost use Rattle.ts_mapping.specs.Settings.{value_of as value_at};
@@ -139,7 +140,7 @@ fn listed(alloc: Global, entries: &[Text]) -> Result<PathSet, NoMemory>
 
 /// The places of the dimensions that are listed.
 fn places(alloc: Global, all: &[Field], entries: Option<&PathSet>) -> Result<Vec<u32>, NoMemory>
-    requires { length all.now ≤ 1000 }
+    requires { length all.now ≤ most_fields }
     ensures { IfOk result (λ places. places.items ≡ fields.routing_from (option_map (λ es. es.now) entries.entry) 0 all.now) }
 {
     let mut places = Vec::new(alloc);
@@ -162,7 +163,7 @@ fn is_listed(entries: Option<&PathSet>, path: &Text) -> bool
 
 /// The places of the dimensions that some entries list.
 fn listed_places(alloc: Global, all: &[Field], entries: &[Text]) -> Result<Vec<u32>, NoMemory>
-    requires { length all.now ≤ 1000 }
+    requires { length all.now ≤ most_fields }
     ensures { IfOk result (λ places. places.items ≡ fields.routing_from (Some entries.now) 0 all.now) }
 {
     let paths = listed(alloc, entries)?;
@@ -172,7 +173,7 @@ fn listed_places(alloc: Global, all: &[Field], entries: &[Text]) -> Result<Vec<u
 
 /// The places of the fields that route: those of the entries, or all dimensions where there are none.
 pub fn routing(alloc: Global, all: &[Field], entries: Option<&[Text]>) -> Result<Vec<u32>, NoMemory>
-    requires { length all.now ≤ 1000 }
+    requires { length all.now ≤ most_fields }
     ensures { IfOk result (λ places. places.items ≡ fields.routing_from (option_map (λ es. es.now) entries.entry) 0 all.now) }
 {
     match entries {

@@ -6,6 +6,7 @@ ghost use Rattle.ts_mapping.specs.Seen.{bytes_of, seen, setting_of, settings_see
 ghost use Rattle.ts_mapping.specs.Settings as spec;
 
 use crate::least::Least;
+use crate::limits::{LONGEST_LOOK, MOST_SHARDS, SHORTEST_LOOK};
 use crate::numbers::{are_digits, digits_value};
 use crate::trees::{below_path, is_text, member, texts};
 use edge_face::{NoMemory, Text};
@@ -32,12 +33,6 @@ pub struct SettingAt<'a> {
 }
 
 const DIGITS_LIMIT: usize = 2;
-
-const SHARDS_LIMIT: u64 = 64;
-/// One minute, and seven days.
-const SHORTEST_LOOK: i64 = 60_000;
-
-const LONGEST_LOOK: i64 = 604_800_000;
 
 fn put<'a>(
     alloc: Global,
@@ -200,7 +195,7 @@ pub fn look_of(value: &Value) -> Option<i64>
 fn in_shards(number: u64) -> Option<u32>
     ensures { result ≡ spec.in_shards number }
 {
-    if 1 <= number && number <= SHARDS_LIMIT {
+    if 1 <= number && number <= MOST_SHARDS {
         Some(number as u32)
     } else {
         None

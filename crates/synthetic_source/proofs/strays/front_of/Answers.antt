@@ -1,6 +1,6 @@
 use Rattle.std.proofs.Common.{◌∙◌, sym, arith}
 use Rattle.ts_mapping.specs.Paths.{is_below}
-use Rattle.ts_mapping.proofs.Sets.{some_below}
+use Rattle.ts_mapping.specs.PathLaws.{some_below}
 use Rattle.synthetic_source.specs.Gathered.{paths_of}
 use Rattle.synthetic_source.proofs.Fronts.{none_above}
 use Rattle.synthetic_source.proofs.Near.{any_paths}

@@ -5,11 +5,10 @@ use Rattle.serde_json.specs.View.{view, members_view}
 use Rattle.json_walk.specs.Listed.{listed_members, placed}
 use Rattle.json_walk.specs.Path.{is_stop}
 use Rattle.json_walk.specs.WalkLaws.{listed_whole}
-use Rattle.ts_mapping.proofs.Sets.{drop_here}
 use Rattle.synthetic_source.specs.Faults.{stops_of}
 use Rattle.synthetic_source.specs.Gathered.{slot_leaves}
 use Rattle.synthetic_source.specs.Walked.{after, here_of, seen_fault, seen_walk}
-use Rattle.synthetic_source.proofs.OneWalk.{items_step, members_step}
+use Rattle.synthetic_source.proofs.OneWalk.{drop_here, items_step, members_step}
 use Rattle.synthetic_source.proofs.walking.+walk.Goals as goal
 
 pub walk_items-loop-item-preserved : goal.walk_items-loop-item-preserved

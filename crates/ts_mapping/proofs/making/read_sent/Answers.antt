@@ -7,6 +7,7 @@ use Rattle.ts_mapping.specs.Fields.{fields_of}
 use Rattle.ts_mapping.specs.Outcomes.{AreTexts}
 use Rattle.ts_mapping.specs.Schemas.{IsTemplateSchema}
 use Rattle.ts_mapping.specs.Seen.{properties_seen, settings_seen}
+use Rattle.ts_mapping.specs.Limits.{most_fields}
 use Rattle.ts_mapping.proofs.Refusals.{entries_are, late_decides, late_is, template_schema}
 use Rattle.ts_mapping.proofs.SchemaLemmas.{body_fields, body_schema}
 use Rattle.ts_mapping.proofs.making.read_sent.Goals as goal
@@ -22,7 +23,7 @@ returns-in-Some c =
 pub schema-requires : goal.schema-requires
 schema-requires c =
     let body = view c.args.body.now in
-    subst (λ fs. length fs ≤ 1000) (sym (c.in_ok-fields.ensures ∙ ap fields_of c.requires.leaves)) (body_fields body c.requires.early)
+    subst (λ fs. length fs ≤ most_fields) (sym (c.in_ok-fields.ensures ∙ ap fields_of c.requires.leaves)) (body_fields body c.requires.early)
 
 pub returns : goal.returns
 returns c =

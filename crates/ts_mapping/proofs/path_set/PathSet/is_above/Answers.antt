@@ -1,5 +1,5 @@
 use Rattle.std.proofs.Common.{sym, ◌∙◌, arith}
-use Rattle.ts_mapping.proofs.Sets.{none_below, some_below}
+use Rattle.ts_mapping.specs.PathLaws.{none_below, some_below}
 use Rattle.ts_mapping.proofs.path_set.PathSet.is_above.Goals as goal
 
 pub returns-then-has : goal.returns-then-has
