@@ -1,4 +1,8 @@
+pub mod Agrees
+pub mod Deep
 pub mod Digits
+pub mod Known
+pub mod Leaves
 pub mod LeastLemmas
 pub mod Nothing
 pub mod Placing
@@ -8,3 +12,5 @@ pub mod SchemaLemmas
 pub mod Sets
 pub mod Sound
 pub mod SortedLemmas
+pub mod Steps
+pub mod Stops

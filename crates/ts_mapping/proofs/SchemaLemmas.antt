@@ -29,7 +29,7 @@ use Rattle.ts_mapping.specs.declared.kinds.MapKind.TheVariants.{BadShards, BadDy
 use Rattle.ts_mapping.proofs.Nothing.{first_look, first_nothing, holds, later_looks, look_nothing, no_paths, second_nothing}
 use Rattle.ts_mapping.proofs.Placing.{AllBy, AllOf, field_paths, of_all, with_all, with_ascends, with_gets, with_keeps, with_length}
 use Rattle.ts_mapping.specs.PathLaws.{exact, first_true, in_any, itself, or_second, second_true, short_path}
-use Rattle.ts_mapping.proofs.Sound.{AreSound, all_fields, all_sent, all_template, sound, sound_leaves}
+use Rattle.ts_mapping.proofs.Sound.{AreSound, all_fields, all_sent, all_template, sound_leaves}
 
 -- ---- the field of the time
 
@@ -295,7 +295,7 @@ sound_body : (body : Data) → least (shape_faults body) ≡ None → AreSound (
 unfolding shape_faults leaves_of
 sound_body body none =
     let nowhere = no_paths (shape_faults body) none in
-    sound_leaves (properties_of body) (sound (properties_of body) (second_nothing (body_faults body ++ template_faults body ++ settings_faults (settings_of body)) (all_faults property_faults (properties_of body)) nowhere))
+    sound_leaves (properties_of body) (second_nothing (body_faults body ++ template_faults body ++ settings_faults (settings_of body)) (all_faults property_faults (properties_of body)) nowhere)
 
 few_body : (body : Data) → first_of (early_looks body) ≡ None → number_of_fields (leaves_of body) ≤ most_fields
 unfolding count_faults

@@ -10,7 +10,7 @@ use Rattle.ts_mapping.specs.Faults.{fails, has_role}
 use Rattle.ts_mapping.specs.Fields.{field_by, field_of, field_with, is_dimension, kind_of, metric_named, metric_of, paths_of, plain_role, role_at, role_by, role_if_had, role_of, time_role}
 use Rattle.ts_mapping.specs.Least.{all_faults, fault_unless}
 use Rattle.ts_mapping.specs.Paths.{is_among, is_field_path, timestamp}
-use Rattle.ts_mapping.specs.Properties.{Property, is_level, leaves_in}
+use Rattle.ts_mapping.specs.Properties.{Placed, Property, is_level, leaves_in}
 use Rattle.ts_mapping.specs.Roles.{is_aggregate, is_date, is_whole, may_have}
 use Rattle.ts_mapping.specs.Schemas.{IsTemplateField}
 use Rattle.ts_mapping.specs.Shapes.{property_faults, value_faults}
@@ -25,22 +25,20 @@ abbrev pub AreSound : List Property → Type 0
 AreSound [] = Unit {0}
 AreSound (p ∷ ps) = (is_field_path p.path ≡ true) × AreSound ps
 
-pub sound : (ps : List Property) → all_faults property_faults ps ≡ [] → AreSound ps
+pub sound_leaves : (ps : List Placed) → all_faults property_faults ps ≡ [] → AreSound (leaves_in ps)
 unfolding property_faults
-sound [] none = tt
-sound (p ∷ ps) none =
-    let here = first_nothing (property_faults p) (all_faults property_faults ps) none in (
-      holds (is_field_path p.path) p.place (first_nothing (fault_unless (is_field_path p.path) p.place) (value_faults p.place p.value) here),
-      sound ps (second_nothing (property_faults p) (all_faults property_faults ps) none),
-    )
-
-pub sound_leaves : (ps : List Property) → AreSound ps → AreSound (leaves_in ps)
-sound_leaves [] are = tt
-sound_leaves (p ∷ ps) are = go (not (is_level p)) (sound_leaves ps are.1)
+sound_leaves [] none = tt
+sound_leaves (p ∷ ps) none = go (is_level p.property) (sound_leaves ps (second_nothing (property_faults p) (all_faults property_faults ps) none))
   where
-    go : (v : Bool) → AreSound (leaves_in ps) → AreSound (if v then p ∷ leaves_in ps else leaves_in ps)
-    go true later = (are.0, later)
-    go false later = later
+    here : is_field_path p.property.path ≡ true
+    here =
+        holds (is_field_path p.property.path) p.place
+        (first_nothing (fault_unless (is_field_path p.property.path) p.place) (value_faults p.place p.property.value)
+        (first_nothing (property_faults p) (all_faults property_faults ps) none))
+
+    go : (v : Bool) → AreSound (leaves_in ps) → AreSound (if v then leaves_in ps else p.property ∷ leaves_in ps)
+    go true later = later
+    go false later = (here, later)
 
 -- ---- the role of a property
 

@@ -19,19 +19,19 @@ pub record IsLeast (ps : List (List ℕ)) (p : List ℕ) : Type 0 where
   pub among : is_among p ps ≡ true
   pub at_most : (q : List ℕ) → is_among q ps ≡ true → IsAtMost p q
 
-less_greater : Less ≡ Greater → ⊥
+pub less_greater : Less ≡ Greater → ⊥
 less_greater e = cc
 
 equal_greater : Equal ≡ Greater → ⊥
 equal_greater e = cc
 
-at_most_itself : (p : List ℕ) → IsAtMost p p
+pub at_most_itself : (p : List ℕ) → IsAtMost p p
 at_most_itself p e = equal_greater (sym (tied_itself nat_list_cmp_total p) ∙ e)
 
-less_at_most : (p q : List ℕ) → slice_cmp nat_cmp p q ≡ Less → IsAtMost p q
+pub less_at_most : (p q : List ℕ) → slice_cmp nat_cmp p q ≡ Less → IsAtMost p q
 less_at_most p q is e = less_greater (sym is ∙ e)
 
-at_most_chain : (p q r : List ℕ) → IsAtMost p q → IsAtMost q r → IsAtMost p r
+pub at_most_chain : (p q r : List ℕ) → IsAtMost p q → IsAtMost q r → IsAtMost p r
 at_most_chain p q r first second = go (slice_cmp nat_cmp p q) refl (slice_cmp nat_cmp q r) refl
   where
     go : (a : Ordering) → slice_cmp nat_cmp p q ≡ a → (b : Ordering) → slice_cmp nat_cmp q r ≡ b → IsAtMost p r
@@ -46,6 +46,9 @@ at_most_chain p q r first second = go (slice_cmp nat_cmp p q) refl (slice_cmp na
 
         flipped : (x y z : List ℕ) → slice_cmp nat_cmp x z ≡ Equal → slice_cmp nat_cmp y z ≡ slice_cmp nat_cmp y x
         flipped x y z e = nat_list_cmp_total.antisymm y z ∙ (ap ordering_reverse (sym (nat_list_cmp_total.congr x z y e)) ∙ sym (nat_list_cmp_total.antisymm y x))
+
+pub not_behind : (p q : List ℕ) → (slice_cmp nat_cmp q p ≡ Less → ⊥) → IsAtMost p q
+not_behind p q never e = never (nat_list_cmp_total.antisymm q p ∙ ap ordering_reverse e)
 
 -- what is held after some paths
 record Held (held : List ℕ) (ps : List (List ℕ)) (p : List ℕ) : Type 0 where
@@ -88,9 +91,6 @@ held_is held [] p is = let same : held ≡ p = cc in record { from = inl (sym sa
     no e = cc
 held_is held (q ∷ ps) p is = go (slice_cmp nat_cmp q held) refl is (held_is q ps p) (held_is held ps p)
   where
-    not_behind : (x y : List ℕ) → (slice_cmp nat_cmp y x ≡ Less → ⊥) → IsAtMost x y
-    not_behind x y never e = never (nat_list_cmp_total.antisymm y x ∙ ap ordering_reverse e)
-
     go : (o : Ordering) → slice_cmp nat_cmp q held ≡ o → least_with (match_ordering o (Some q) (Some held) (Some held)) ps ≡ Some p
         → (least_with (Some q) ps ≡ Some p → Held q ps p) → (least_with (Some held) ps ≡ Some p → Held held ps p) → Held held (q ∷ ps) p
     go Less e is first other = with_first held q ps p q (inr refl) (less_at_most q held e) (at_most_itself q) (first is)

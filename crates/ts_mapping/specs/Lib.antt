@@ -1,3 +1,4 @@
+pub mod Agreeing
 pub mod Faults
 pub mod Fields
 pub mod Least
@@ -18,3 +19,4 @@ pub mod Shapes
 pub mod Sorted
 pub mod Templates
 pub mod Trees
+pub mod Walks

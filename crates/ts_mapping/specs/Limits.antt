@@ -13,6 +13,10 @@ most_patterns = 16
 abbrev pub greatest_priority : ℕ
 greatest_priority = 2147483647
 
+-- bytes of the path of a setting, which is `index.number_of_replicas`
+abbrev pub longest_setting : ℕ
+longest_setting = 24
+
 abbrev pub most_shards : ℕ
 most_shards = 64
 

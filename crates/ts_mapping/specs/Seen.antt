@@ -23,7 +23,7 @@ abbrev pub settings_seen : List SettingAt → List Setting
 settings_seen = map setting_of
 
 abbrev pub property_of : PropertyAt → Property
-property_of p = record { place = p.place; path = p.path; value = view p.value.now }
+property_of p = record { path = p.path; value = view p.value.now }
 
 abbrev pub properties_seen : List PropertyAt → List Property
 properties_seen = map property_of

@@ -9,7 +9,7 @@ use Rattle.ts_mapping.specs.Fields.{kind_of}
 use Rattle.ts_mapping.specs.Least.{all_faults, fault_unless, under}
 use Rattle.ts_mapping.specs.Limits.{greatest_priority, most_patterns}
 use Rattle.ts_mapping.specs.Paths.{is_among, is_field_path}
-use Rattle.ts_mapping.specs.Properties.{Property, mappings_of, properties_of}
+use Rattle.ts_mapping.specs.Properties.{Placed, mappings_of, properties_of}
 use Rattle.ts_mapping.specs.Roles.{is_aggregate}
 use Rattle.ts_mapping.specs.Settings.{settings_faults, settings_of}
 use Rattle.ts_mapping.specs.Trees.{has_to_be, is_empty_list, is_flag, is_object, is_text, may_be, member_of, texts_of, unknown_in}
@@ -142,8 +142,8 @@ value_faults place d =
     else place ∷ []
 
 -- a property is at fault where its path is one that no field may have, or its value is ill-formed
-unfoldable pub property_faults : Property → List (List ℕ)
-property_faults p = fault_unless (is_field_path p.path) p.place ++ value_faults p.place p.value
+unfoldable pub property_faults : Placed → List (List ℕ)
+property_faults p = fault_unless (is_field_path p.property.path) p.place ++ value_faults p.place p.property.value
 
 -- all places of a body that are ill-formed
 unfoldable pub shape_faults : Data → List (List ℕ)

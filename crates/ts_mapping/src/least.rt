@@ -57,6 +57,19 @@ impl Least {
         Ok(())
     }
 
+    /// Tells a path at fault that is a text already.
+    pub fn put(&mut self, path: Text)
+        ensures { self.new ≡ lesser self.old path }
+    {
+        if let Some(held) = &self.held {
+            match path.as_str().cmp(held.as_str()) {
+                Ordering::Less => {}
+                Ordering::Equal | Ordering::Greater => return,
+            }
+        }
+        self.held = Some(path);
+    }
+
     /// Tells a path where something that has to hold doesn't.
     pub fn note_unless(&mut self, alloc: Global, holds: bool, path: &str) -> Result<(), NoMemory>
         ensures { OnOk result (self.new ≡ least_with self.old (fault_unless holds path.now)) }

@@ -1,6 +1,7 @@
 //! Templates of indices, and what the leaves of a document are at their fields.
 #![tactic(auto)]
 
+mod agreeing;
 mod body;
 mod clashes;
 mod faults;
@@ -9,6 +10,7 @@ mod gathering;
 mod kinds;
 mod laws;
 mod least;
+mod levels;
 mod limits;
 mod looks;
 mod making;
@@ -18,11 +20,13 @@ mod paths;
 mod properties;
 mod readings;
 mod routing;
+mod sent_settings;
 mod settings;
 mod shapes;
 mod templates;
 mod trees;
 
+pub use agreeing::first_other;
 pub use kinds::MapKind;
 pub use laws::least_is_least;
 pub use limits::{

@@ -9,6 +9,9 @@ pub const MOST_PATTERNS: usize = 16;
 /// The greatest priority.
 pub const GREATEST_PRIORITY: u64 = 2_147_483_647;
 
+/// Bytes of the path of a setting, which is `index.number_of_replicas`.
+pub(crate) const LONGEST_SETTING: usize = 24;
+
 /// Shards.
 pub const MOST_SHARDS: u64 = 64;
 

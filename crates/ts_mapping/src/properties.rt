@@ -1,39 +1,43 @@
-//! The properties of a template's mappings, gathered in one walk.
-ghost use Rattle.std.specs.Prelude.{◌≡◌, ◌++◌, IfOk, OnOk, not};
+//! The properties of a template's mappings that are fields, gathered in one walk.
+ghost use Rattle.std.specs.Prelude.{◌≡◌, ◌++◌, IfOk, IsSome, None, OnOk, codes};
 ghost use Rattle.serde_json.specs.View.{members_view, view};
-ghost use Rattle.ts_mapping.specs.Seen.{bytes_of, properties_seen, property_of, seen};
-ghost use Rattle.ts_mapping.specs.Properties as spec;
+ghost use Rattle.ts_mapping.specs.Faults.{leaves_of};
+ghost use Rattle.ts_mapping.specs.Properties.{leaves_in, listed};
+ghost use Rattle.ts_mapping.specs.Seen.{properties_seen};
+ghost use Rattle.ts_mapping.specs.Walks as spec;
+ghost use Rattle.ts_mapping.specs.Walks.{text_at};
 
 use crate::body::mappings;
-use crate::least::under_place;
-use crate::trees::{below_path, member};
+use crate::sent_settings::text_of;
+use crate::trees::{has_member, member};
 use edge_face::{NoMemory, Text};
+use json_walk::Place;
 use serde_json::{Map, Value};
 use std::alloc::Global;
 
 /// A property as it was sent.
 #[derive(Drop)]
 pub struct PropertyAt<'a> {
-    /// Where it stands in the body.
-    pub place: Text,
     /// The names that lead to it, joined by dots.
     pub path: Text,
     pub value: &'a Value,
 }
 
+/// Adds a property that is a field.
 fn put<'a>(
     alloc: Global,
     value: &'a Value,
-    place: &str,
-    path: &str,
+    path: &Place,
     found: &mut Vec<PropertyAt<'a>>,
 ) -> Result<(), NoMemory>
     ensures { OnOk result (properties_seen found.new.items
-        ≡ properties_seen found.old.items ++ spec.single place.now path.now (view value.now)) }
+        ≡ properties_seen found.old.items ++ spec.field_here (text_at path.now) (view value.now)) }
 {
-    let place = Text::new(alloc, place)?;
-    let path = Text::new(alloc, path)?;
-    match found.push(PropertyAt { place, path, value }) {
+    if has_member(value, "properties") {
+        return Ok(());
+    }
+    let path = Text::new(alloc, text_of(path))?;
+    match found.push(PropertyAt { path, value }) {
         Ok(()) => Ok(()),
         Err(_) => Err(NoMemory),
     }
@@ -43,16 +47,17 @@ fn put<'a>(
 fn walk<'a>(
     alloc: Global,
     value: &'a Value,
-    place: &str,
-    path: &str,
+    path: &mut Place,
     found: &mut Vec<PropertyAt<'a>>,
 ) -> Result<(), NoMemory>
-    ensures { OnOk result (properties_seen found.new.items
-        ≡ properties_seen found.old.items ++ spec.property_at place.now path.now (view value.now)) }
+    requires { IsSome path.old }
+    ensures path { OnOk result (path.new ≡ path.old) }
+    ensures found { OnOk result (properties_seen found.new.items
+        ≡ properties_seen found.old.items ++ spec.fields_at (text_at path.old) (view value.now)) }
 {
-    put(alloc, value, place, path, found)?;
+    put(alloc, value, path, found)?;
     match value {
-        Value::Object(members) => walk_inside(alloc, members, place, path, found),
+        Value::Object(members) => walk_inside(alloc, members, path, found),
         Value::Null | Value::Bool(_) | Value::Number(_) | Value::String(_) | Value::Array(_) => {
             Ok(())
         }
@@ -63,17 +68,17 @@ fn walk<'a>(
 fn walk_inside<'a>(
     alloc: Global,
     members: &'a Map<String, Value>,
-    place: &str,
-    path: &str,
+    path: &mut Place,
     found: &mut Vec<PropertyAt<'a>>,
 ) -> Result<(), NoMemory>
-    ensures { OnOk result (properties_seen found.new.items
-        ≡ properties_seen found.old.items ++ spec.inside place.now path.now (members_view members.now.entries)) }
+    requires { IsSome path.old }
+    ensures path { OnOk result (path.new ≡ path.old) }
+    ensures found { OnOk result (properties_seen found.new.items
+        ≡ properties_seen found.old.items ++ spec.fields_inside (text_at path.old) (members_view members.now.entries)) }
 {
     for (name, member) in members.iter() {
         if name.as_str() == "properties" {
-            let inner = under_place(alloc, place, name.as_str())?;
-            walk_list(alloc, member, inner.as_str(), Some(path), found)?;
+            walk_list(alloc, member, path, found)?;
         }
     }
     Ok(())
@@ -83,15 +88,15 @@ fn walk_inside<'a>(
 fn walk_list<'a>(
     alloc: Global,
     value: &'a Value,
-    place: &str,
-    here: Option<&str>,
+    path: &mut Place,
     found: &mut Vec<PropertyAt<'a>>,
 ) -> Result<(), NoMemory>
-    ensures { OnOk result (properties_seen found.new.items
-        ≡ properties_seen found.old.items ++ spec.listed place.now (bytes_of here.entry) (view value.now)) }
+    ensures path { OnOk result (path.new ≡ path.old) }
+    ensures found { OnOk result (properties_seen found.new.items
+        ≡ properties_seen found.old.items ++ spec.fields_listed path.old (view value.now)) }
 {
     match value {
-        Value::Object(members) => walk_members(alloc, members, place, here, found),
+        Value::Object(members) => walk_members(alloc, members, path, found),
         Value::Null | Value::Bool(_) | Value::Number(_) | Value::String(_) | Value::Array(_) => {
             Ok(())
         }
@@ -102,35 +107,38 @@ fn walk_list<'a>(
 fn walk_members<'a>(
     alloc: Global,
     members: &'a Map<String, Value>,
-    place: &str,
-    here: Option<&str>,
+    path: &mut Place,
     found: &mut Vec<PropertyAt<'a>>,
 ) -> Result<(), NoMemory>
-    ensures { OnOk result (properties_seen found.new.items
-        ≡ properties_seen found.old.items ++ spec.listed_members place.now (bytes_of here.entry) (members_view members.now.entries)) }
+    ensures path { OnOk result (path.new ≡ path.old) }
+    ensures found { OnOk result (properties_seen found.new.items
+        ≡ properties_seen found.old.items ++ spec.fields_among path.old (members_view members.now.entries)) }
 {
     for (name, member) in members.iter() {
-        let inner = under_place(alloc, place, name.as_str())?;
-        let path = below_path(alloc, here, name.as_str())?;
-        walk(alloc, member, inner.as_str(), path.as_str(), found)?;
+        path.enter(name.as_str())?;
+        walk(alloc, member, path, found)?;
+        path.leave(name.as_str());
     }
     Ok(())
 }
 
-/// The properties of a body, each before those inside it.
-#[tactic(auto, unfolding(crate::specs::Properties::properties_of))]
-pub fn properties<'a>(alloc: Global, body: &'a Value) -> Result<Vec<PropertyAt<'a>>, NoMemory>
-    ensures { IfOk result (λ found. properties_seen found.items ≡ spec.properties_of (view body.now)) }
+/// The properties of a member `properties` that are fields.
+fn fields_below<'a>(alloc: Global, value: &'a Value) -> Result<Vec<PropertyAt<'a>>, NoMemory>
+    ensures { IfOk result (λ found. properties_seen found.items ≡ leaves_in (listed (codes "template.mappings.properties") None (view value.now))) }
 {
     let mut found = Vec::new(alloc);
-    if let Some(value) = member(mappings(body), "properties") {
-        walk_list(
-            alloc,
-            value,
-            "template.mappings.properties",
-            None,
-            &mut found,
-        )?;
-    }
+    let mut path = Place::root(alloc)?;
+    walk_list(alloc, value, &mut path, &mut found)?;
     Ok(found)
+}
+
+/// The properties of a body that are fields.
+#[tactic(auto, unfolding(crate::specs::Faults::leaves_of, crate::specs::Properties::properties_of))]
+pub fn fields_sent<'a>(alloc: Global, body: &'a Value) -> Result<Vec<PropertyAt<'a>>, NoMemory>
+    ensures { IfOk result (λ found. properties_seen found.items ≡ leaves_of (view body.now)) }
+{
+    match member(mappings(body), "properties") {
+        None => Ok(Vec::new(alloc)),
+        Some(value) => fields_below(alloc, value),
+    }
 }

@@ -1,16 +1,18 @@
 //! The settings of a template.
-ghost use Rattle.std.specs.Prelude.{◌≡◌, ◌++◌, IfOk, OnOk, [], length, filter};
-ghost use Rattle.serde_json.specs.View.{members_view, view};
+ghost use Rattle.std.specs.Prelude.{◌≡◌, ◌++◌, IfOk, OnOk, length, filter};
+ghost use Rattle.serde_json.specs.View.{view};
 ghost use Rattle.ts_mapping.specs.Least.{all_faults, fault_unless, least_with};
-ghost use Rattle.ts_mapping.specs.Seen.{bytes_of, seen, setting_of, settings_seen};
+ghost use Rattle.ts_mapping.specs.Seen.{seen, setting_of, settings_seen};
+ghost use Rattle.ts_mapping.specs.Walks.{known_settings, sent_faults};
 ghost use Rattle.ts_mapping.specs.Settings as spec;
 
 use crate::least::Least;
 use crate::limits::{LONGEST_LOOK, MOST_SHARDS, SHORTEST_LOOK};
 use crate::numbers::{are_digits, digits_value};
-use crate::trees::{below_path, is_text, member, texts};
+use crate::sent_settings::check_known;
+use crate::trees::{is_text, texts};
 use edge_face::{NoMemory, Text};
-use serde_json::{Map, Value};
+use serde_json::Value;
 use std::alloc::Global;
 use time_text::Interval;
 
@@ -33,72 +35,6 @@ pub struct SettingAt<'a> {
 }
 
 const DIGITS_LIMIT: usize = 2;
-
-fn put<'a>(
-    alloc: Global,
-    value: &'a Value,
-    here: Option<&str>,
-    found: &mut Vec<SettingAt<'a>>,
-) -> Result<(), NoMemory>
-    ensures { OnOk result (settings_seen found.new.items
-        ≡ settings_seen found.old.items ++ spec.setting_at (bytes_of here.entry) (view value.now)) }
-{
-    let Some(path) = here else {
-        return Ok(());
-    };
-    let path = Text::new(alloc, path)?;
-    match found.push(SettingAt { path, value }) {
-        Ok(()) => Ok(()),
-        Err(_) => Err(NoMemory),
-    }
-}
-
-#[cycle(flatten)]
-fn flatten<'a>(
-    alloc: Global,
-    value: &'a Value,
-    here: Option<&str>,
-    found: &mut Vec<SettingAt<'a>>,
-) -> Result<(), NoMemory>
-    ensures { OnOk result (settings_seen found.new.items
-        ≡ settings_seen found.old.items ++ spec.flat (bytes_of here.entry) (view value.now)) }
-{
-    match value {
-        Value::Object(members) => flatten_members(alloc, members, here, found),
-        Value::Null | Value::Bool(_) | Value::Number(_) | Value::String(_) | Value::Array(_) => {
-            put(alloc, value, here, found)
-        }
-    }
-}
-
-#[cycle(flatten)]
-fn flatten_members<'a>(
-    alloc: Global,
-    members: &'a Map<String, Value>,
-    here: Option<&str>,
-    found: &mut Vec<SettingAt<'a>>,
-) -> Result<(), NoMemory>
-    ensures { OnOk result (settings_seen found.new.items
-        ≡ settings_seen found.old.items ++ spec.flat_members (bytes_of here.entry) (members_view members.now.entries)) }
-{
-    for (name, member) in members.iter() {
-        let path = below_path(alloc, here, name.as_str())?;
-        flatten(alloc, member, Some(path.as_str()), found)?;
-    }
-    Ok(())
-}
-
-/// The settings of a body, in the order of a walk.
-#[tactic(auto, unfolding(crate::specs::Settings::settings_of))]
-pub fn settings<'a>(alloc: Global, body: &'a Value) -> Result<Vec<SettingAt<'a>>, NoMemory>
-    ensures { IfOk result (λ found. settings_seen found.items ≡ spec.settings_of (view body.now)) }
-{
-    let mut found = Vec::new(alloc);
-    if let Some(value) = member(body.get("template"), "settings") {
-        flatten(alloc, value, None, &mut found)?;
-    }
-    Ok(found)
-}
 
 fn short_path(path: &[u8]) -> &[u8]
     ensures { result.now ≡ spec.short_path path.now }
@@ -132,7 +68,7 @@ impl Key {
 
 /// Whether a path names some setting.
 #[tactic(auto, unfolding(crate::specs::Settings::is_known))]
-fn is_known(path: &Text) -> bool
+pub fn is_known(path: &str) -> bool
     ensures { result ≡ spec.is_known path.now }
 {
     let name = short_path(path.as_bytes());
@@ -237,7 +173,8 @@ fn is_formed(alloc: Global, key: Key, value: &Value) -> Result<bool, NoMemory>
     }
 }
 
-const PLACE: &str = "template.settings";
+/// Where settings stand in a body.
+pub const PLACE: &str = "template.settings";
 
 fn check_setting(
     alloc: Global,
@@ -271,32 +208,37 @@ fn check_key(
     Ok(())
 }
 
-fn check_known(alloc: Global, settings: &[SettingAt<'_>], least: &mut Least) -> Result<(), NoMemory>
-    ensures { OnOk result (least.new ≡ least_with least.old (all_faults spec.unknown_setting (settings_seen settings.now))) }
+/// Tells the settings at fault, of which those that have the name of one were sent.
+#[tactic(auto, using(crate::proofs::LeastLemmas::least_with_append))]
+fn check_sent(
+    alloc: Global,
+    body: &Value,
+    sent: &[SettingAt<'_>],
+    least: &mut Least,
+) -> Result<(), NoMemory>
+    ensures { OnOk result (least.new
+        ≡ least_with least.old (sent_faults (spec.settings_of (view body.now)) (settings_seen sent.now))) }
 {
-    for setting in settings {
-        let known = is_known(&setting.path);
-        least.note_under(alloc, known, PLACE, setting.path.as_str())?;
-    }
-    Ok(())
+    check_known(alloc, body, least)?;
+    check_key(alloc, Key::Mode, sent, least)?;
+    check_key(alloc, Key::RoutingPath, sent, least)?;
+    check_key(alloc, Key::Shards, sent, least)?;
+    check_key(alloc, Key::LookBack, sent, least)?;
+    check_key(alloc, Key::LookAhead, sent, least)?;
+    check_key(alloc, Key::Replicas, sent, least)?;
+    let given = value_of(Key::Mode, sent).is_some();
+    least.note_under(alloc, given, PLACE, "mode")
 }
 
 /// Tells the settings at fault: unknown, given twice or ill-formed, or no mode.
-#[tactic(auto, using(crate::proofs::LeastLemmas::least_with_append), unfolding(crate::specs::Settings::settings_faults))]
 pub fn check_settings(
     alloc: Global,
-    settings: &[SettingAt<'_>],
+    body: &Value,
+    sent: &[SettingAt<'_>],
     least: &mut Least,
 ) -> Result<(), NoMemory>
-    ensures { OnOk result (least.new ≡ least_with least.old (spec.settings_faults (settings_seen settings.now))) }
+    requires { settings_seen sent.now ≡ known_settings (spec.settings_of (view body.now)) }
+    ensures { OnOk result (least.new ≡ least_with least.old (spec.settings_faults (spec.settings_of (view body.now)))) }
 {
-    check_known(alloc, settings, least)?;
-    check_key(alloc, Key::Mode, settings, least)?;
-    check_key(alloc, Key::RoutingPath, settings, least)?;
-    check_key(alloc, Key::Shards, settings, least)?;
-    check_key(alloc, Key::LookBack, settings, least)?;
-    check_key(alloc, Key::LookAhead, settings, least)?;
-    check_key(alloc, Key::Replicas, settings, least)?;
-    let given = value_of(Key::Mode, settings).is_some();
-    least.note_under(alloc, given, PLACE, "mode")
+    check_sent(alloc, body, sent, least)
 }

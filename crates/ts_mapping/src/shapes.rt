@@ -1,17 +1,17 @@
 //! The form of single properties.
 ghost use Rattle.std.specs.Prelude.{◌≡◌, ◌++◌, IfOk, OnOk, Some, is_some};
 ghost use Rattle.serde_json.specs.View.{view};
-ghost use Rattle.ts_mapping.specs.Least.{all_faults, fault_unless, least, least_with};
-ghost use Rattle.ts_mapping.specs.Seen.{properties_seen, property_of, seen, settings_seen};
+ghost use Rattle.ts_mapping.specs.Least.{fault_unless, least, least_with};
+ghost use Rattle.ts_mapping.specs.Seen.{seen, settings_seen};
 ghost use Rattle.ts_mapping.specs.Shapes as spec;
-ghost use Rattle.ts_mapping.specs.Properties.{properties_of};
 ghost use Rattle.ts_mapping.specs.Settings.{settings_of};
+ghost use Rattle.ts_mapping.specs.Walks.{known_settings};
 
 use crate::body::{check_body, check_template};
 use crate::fields::kind_of;
 use crate::least::Least;
+use crate::levels::check_properties;
 use crate::paths::is_field_path;
-use crate::properties::PropertyAt;
 use crate::settings::{SettingAt, check_settings};
 use crate::trees::{
     check_names, has_member, has_to_be_text, is_among, is_object, may_be_flag, may_be_object,
@@ -144,50 +144,37 @@ fn check_value(alloc: Global, value: &Value, place: &str, least: &mut Least) -> 
     }
 }
 
+/// Tells what is ill-formed in a property.
 #[tactic(auto, using(crate::proofs::LeastLemmas::least_with_append), unfolding(crate::specs::Shapes::property_faults))]
-fn check_property(
+pub fn check_property(
     alloc: Global,
-    property: &PropertyAt<'_>,
-    least: &mut Least,
-) -> Result<(), NoMemory>
-    ensures { OnOk result (least.new ≡ least_with least.old (spec.property_faults (property_of property.now))) }
-{
-    let sound = is_field_path(property.path.as_bytes());
-    least.note_unless(alloc, sound, property.place.as_str())?;
-    check_value(alloc, property.value, property.place.as_str(), least)
-}
-
-#[tactic(auto, using(crate::proofs::LeastLemmas::least_with_append))]
-fn check_properties(
-    alloc: Global,
-    properties: &[PropertyAt<'_>],
+    value: &Value,
+    place: &str,
+    path: &str,
     least: &mut Least,
 ) -> Result<(), NoMemory>
     ensures { OnOk result (least.new
-        ≡ least_with least.old (all_faults spec.property_faults (properties_seen properties.now))) }
+        ≡ least_with least.old (spec.property_faults (record { place = place.now; property = record { path = path.now; value = view value.now } }))) }
 {
-    for property in properties {
-        check_property(alloc, property, least)?;
-    }
-    Ok(())
+    let sound = is_field_path(path.as_bytes());
+    least.note_unless(alloc, sound, place)?;
+    check_value(alloc, value, place, least)
 }
 
-/// The least place of a body that is ill-formed. Settings and properties are those of the body.
+/// The least place of a body that is ill-formed. The settings are those of the body that have the name of one.
 #[tactic(auto, using(crate::proofs::LeastLemmas::least_with_append), unfolding(crate::specs::Shapes::shape_faults))]
 pub fn shape_fault(
     alloc: Global,
     body: &Value,
     settings: &[SettingAt<'_>],
-    properties: &[PropertyAt<'_>],
 ) -> Result<Option<Text>, NoMemory>
-    requires settings { settings_seen settings.now ≡ settings_of (view body.now) }
-    requires properties { properties_seen properties.now ≡ properties_of (view body.now) }
+    requires { settings_seen settings.now ≡ known_settings (settings_of (view body.now)) }
     ensures { IfOk result (λ path. path ≡ least (spec.shape_faults (view body.now))) }
 {
     let mut least = Least::new();
     check_body(alloc, body, &mut least)?;
     check_template(alloc, body, &mut least)?;
-    check_settings(alloc, settings, &mut least)?;
-    check_properties(alloc, properties, &mut least)?;
+    check_settings(alloc, body, settings, &mut least)?;
+    check_properties(alloc, body, &mut least)?;
     Ok(least.into_path())
 }
