@@ -14,3 +14,4 @@ pub mod Sound
 pub mod SortedLemmas
 pub mod Steps
 pub mod Stops
+pub mod Tested

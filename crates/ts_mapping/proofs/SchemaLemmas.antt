@@ -92,7 +92,7 @@ timed ps are roles = time_in (fields_of ps) (all_are_template ps are) (go (has_t
 
 -- ---- paths
 
-some_path : (p : List ℕ) → is_field_path p ≡ true → 0 < length p
+pub some_path : (p : List ℕ) → is_field_path p ≡ true → 0 < length p
 unfolding is_field_path
 some_path [] is = absurd (no (second_true (nat_le 0 longest_path) false is))
   where

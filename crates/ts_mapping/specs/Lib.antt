@@ -1,4 +1,7 @@
 pub mod Agreeing
+pub mod Checks
+pub mod FactLaws
+pub mod Facts
 pub mod Faults
 pub mod Fields
 pub mod Least

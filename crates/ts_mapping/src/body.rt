@@ -19,7 +19,7 @@ use serde_json::Value;
 use sqlite_items::Items;
 use std::alloc::Global;
 
-fn are_patterns(patterns: &[Text]) -> bool
+pub fn are_patterns(patterns: &[Text]) -> bool
     ensures { result ≡ list_all is_pattern_of patterns.now }
 {
     patterns

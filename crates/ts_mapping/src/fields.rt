@@ -144,7 +144,7 @@ fn may_be_dimension(kind: FieldType) -> bool
 }
 
 /// Whether a field of the type may have the role.
-fn may_have(kind: FieldType, role: Role) -> bool
+pub fn may_have(kind: FieldType, role: Role) -> bool
     ensures { result ≡ roles.may_have kind role }
 {
     match role {

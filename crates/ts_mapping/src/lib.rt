@@ -3,6 +3,7 @@
 
 mod agreeing;
 mod body;
+mod checks;
 mod clashes;
 mod faults;
 mod fields;
@@ -27,6 +28,7 @@ mod templates;
 mod trees;
 
 pub use agreeing::first_other;
+pub use checks::{is_mapping, is_template};
 pub use kinds::MapKind;
 pub use laws::least_is_least;
 pub use limits::{

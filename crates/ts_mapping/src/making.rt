@@ -103,7 +103,7 @@ fn make(
 }
 
 /// Reads each path once, since contracts know a text by that.
-fn read_paths(fields: &[Field])
+pub fn read_paths(fields: &[Field])
     ensures { AreTexts fields.now }
 {
     for field in fields {

@@ -29,7 +29,7 @@ pub fn entries(alloc: Global, settings: &[SettingAt<'_>]) -> Result<Option<Items
     }
 }
 
-fn is_dimension(role: Role) -> bool
+pub fn is_dimension(role: Role) -> bool
     ensures { result ≡ fields.is_dimension_role role }
 {
     match role {
