@@ -1,5 +1,5 @@
 -- The least of the settings below a long path.
-use Rattle.std.proofs.Common.{◌≡◌, ◌<◌, ◌≤◌, ◌+◌, ℕ, suc, List, [], ◌∷◌, ◌++◌, Bool, true, false, ◌||◌, map, drop, length, Option, Some, None, Ordering, Less, Equal, Greater, refl, sym, ap, ap₂, ◌∙◌, subst, arith}
+use Rattle.std.proofs.Common.{◌≡◌, ◌<◌, ◌≤◌, ℕ, List, [], ◌∷◌, ◌++◌, Bool, true, false, map, drop, length, Option, Some, None, Ordering, Less, Equal, Greater, refl, sym, ap, ap₂, ◌∙◌, subst, arith}
 use Rattle.std.specs.Prelude.{codes, bytes_eq, if◌then◌else◌, option_map, take}
 use Rattle.std.specs.Cmp.{tied_itself}
 use Rattle.std.specs.Cmp.Lexicographic.{slice_cmp, nat_list_cmp_total}
@@ -8,12 +8,11 @@ use Rattle.std.proofs.lemmas.Cmp.{nat_cmp_total}
 use Rattle.std.proofs.lemmas.List.{append_assoc, length-append, length-drop}
 use Rattle.std.proofs.lemmas.Slice.Eq.{bytes_eq-Decides}
 use Rattle.serde_json.specs.Data.{Data, null, boolean, number, string, array, object, Members, no_members, member}
-use Rattle.json_walk.specs.Path.{below}
 use Rattle.ts_mapping.specs.Least.{all_faults, fault_unless, least, least_with, lesser, under}
-use Rattle.ts_mapping.specs.LeastLaws.{IsAtMost, at_most_chain, less_greater, not_behind}
+use Rattle.ts_mapping.specs.LeastLaws.{IsAtMost, at_most_chain, not_behind}
 use Rattle.ts_mapping.specs.Limits.{longest_setting}
 use Rattle.ts_mapping.specs.Paths.{is_among}
-use Rattle.ts_mapping.specs.Settings.{Setting, flat, flat_members, is_known, key_names, setting_place, short_path, unknown_setting}
+use Rattle.ts_mapping.specs.Settings.{Setting, flat, flat_members, is_known, key_names, short_path, unknown_setting}
 use Rattle.ts_mapping.specs.Walks.{setting_paths}
 use Rattle.ts_mapping.proofs.LeastLemmas.{least_with_append}
 

@@ -1,11 +1,11 @@
 -- Settings that have the name of one, among all that are sent.
-use Rattle.std.proofs.Common.{◌≡◌, ℕ, suc, List, [], ◌∷◌, ◌++◌, Bool, true, false, ◌||◌, ◌&&◌, cond, filter, length, nat_le, Option, Some, None, refl, sym, ap, ap₂, ◌∙◌, subst}
+use Rattle.std.proofs.Common.{◌≡◌, ℕ, suc, List, [], ◌∷◌, ◌++◌, Bool, true, false, ◌||◌, ◌&&◌, filter, length, nat_le, Some, None, refl, sym, ap, ◌∙◌}
 use Rattle.std.specs.Prelude.{codes, bytes_eq, if◌then◌else◌, is_some}
 use Rattle.serde_json.specs.Data.{Data}
 use Rattle.ts_mapping.specs.Least.{all_faults, fault_unless, least}
 use Rattle.ts_mapping.specs.PathLaws.{or_second}
 use Rattle.ts_mapping.specs.Properties.{properties_of}
-use Rattle.ts_mapping.specs.Settings.{Setting, faults_at_key, has_key, is_formed, is_known, is_named, key_fault, key_name, setting_place, settings_faults, settings_of, short_path, times_given, unknown_setting, value_of}
+use Rattle.ts_mapping.specs.Settings.{Setting, faults_at_key, has_key, is_formed, is_known, is_named, key_fault, setting_place, settings_faults, settings_of, short_path, times_given, unknown_setting, value_of}
 use Rattle.ts_mapping.specs.Shapes.{body_faults, property_faults, shape_faults, template_faults}
 use Rattle.ts_mapping.specs.Walks.{known_settings, sent_faults}
 use Rattle.ts_mapping.specs.declared.settings.Key.{Key}

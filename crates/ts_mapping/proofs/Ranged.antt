@@ -1,5 +1,5 @@
 -- What a template of a body that no look refuses may be.
-use Rattle.std.proofs.Common.{◌≡◌, ◌≤◌, ◌*◌, ℕ, ℤ, pos, List, [], ◌∷◌, ◌++◌, length, Bool, true, false, ◌&&◌, cond, nat_le, Option, Some, None, refl, sym, ap, ◌∙◌, subst, arith}
+use Rattle.std.proofs.Common.{◌≡◌, ◌≤◌, ◌*◌, ℕ, ℤ, pos, List, [], ◌++◌, length, Bool, true, false, ◌&&◌, cond, nat_le, Option, Some, None, refl, sym, subst, arith}
 use Rattle.std.specs.Prelude.{◌==◌, codes, is_some, not, option_and_then, slice_index, unwrap_or}
 use Rattle.std.specs.Str.{all_ascii_digits}
 use Rattle.std.specs.Str.Parse.{digits_value}
@@ -10,13 +10,13 @@ use Rattle.serde_json.specs.Find.{as_number, as_str, as_u64, get}
 use Rattle.time_text.specs.Interval.{interval_of}
 use Rattle.time_text.specs.Unit.{unit_ms}
 use Rattle.time_text.specs.declared.units.Unit.{Unit as IntervalUnit}
-use Rattle.ts_mapping.specs.Faults.{first_of, given_shards, look, looks, refusal_of, shards_in}
+use Rattle.ts_mapping.specs.Faults.{given_shards, look, refusal_of, shards_in}
 use Rattle.index_names.specs.Patterns.{is_pattern}
 use Rattle.ts_mapping.specs.Limits.{greatest_priority, longest_look, most_patterns, most_shards, shortest_look, usual_look_ahead, usual_look_back}
 use Rattle.ts_mapping.specs.Least.{all_faults, fault_unless}
 use Rattle.ts_mapping.specs.Properties.{properties_of}
 use Rattle.ts_mapping.specs.Ranges.{IsInRange, IsLook}
-use Rattle.ts_mapping.specs.Settings.{Setting, in_look, in_shards, look_of, settings_faults, settings_of, shards_of, shards_text, value_of}
+use Rattle.ts_mapping.specs.Settings.{Setting, in_look, in_shards, look_of, settings_faults, settings_of, shards_of, value_of}
 use Rattle.ts_mapping.specs.Shapes.{body_faults, checked_patterns, choice_faults, given_priority, in_priority, names_faults, patterns_of, priority_of, property_faults, shape_faults, stream_faults, template_faults}
 use Rattle.ts_mapping.specs.Templates.{look_at, template_of}
 use Rattle.ts_mapping.specs.Trees.{has_to_be, is_object, texts_of}

@@ -17,7 +17,7 @@ use Rattle.ts_mapping.specs.Fields.{added_time, dimension_paths, fields_of, has_
 use Rattle.row_cells.specs.Limits.{longest_path}
 use Rattle.ts_mapping.specs.Limits.{most_fields}
 use Rattle.ts_mapping.specs.Least.{all_faults, fault_unless, least}
-use Rattle.ts_mapping.specs.Paths.{first_part, has_parts, is_among, is_below, is_field_path, reserved, timestamp}
+use Rattle.ts_mapping.specs.Paths.{is_among, is_below, is_field_path, timestamp}
 use Rattle.ts_mapping.specs.Properties.{Property, properties_of}
 use Rattle.ts_mapping.specs.Outcomes.{AreTexts}
 use Rattle.ts_mapping.specs.Roles.{is_date, may_have}

@@ -1,5 +1,5 @@
 -- Sets of paths, and tests that only ask which paths are among some.
-use Rattle.std.proofs.Common.{◌≡◌, ◌<◌, ◌+◌, ℕ, zero, suc, List, [], ◌∷◌, ◌++◌, Bool, true, false, ◌||◌, ◌&&◌, ◌==◌, not, bytes_eq, Ordering, Less, Equal, Greater, map, take, drop, length, get_or, add-one, drop-cons, Option, Some, None, if◌then◌else◌, nat_le, refl, sym, ap, ap₂, ◌∙◌, arith, subst}
+use Rattle.std.proofs.Common.{◌≡◌, ◌<◌, ◌+◌, ℕ, suc, List, [], ◌∷◌, ◌++◌, Bool, true, false, ◌||◌, ◌&&◌, not, bytes_eq, Ordering, Less, Equal, Greater, map, drop, length, get_or, add-one, drop-cons, Option, Some, None, if◌then◌else◌, nat_le, refl, sym, ap, ap₂, ◌∙◌}
 use Rattle.std.specs.Prelude.{Vec}
 use Rattle.std.specs.declared.alloc.Global.{Global}
 use Rattle.std.specs.BTreeMap.{is_at}
@@ -9,7 +9,6 @@ use Rattle.std.specs.List.{list_any}
 use Rattle.std.specs.Ordering.{nat_cmp, match_ordering, is_eq}
 use Rattle.std.proofs.lemmas.Map.Text.{is_eq-slice_cmp}
 use Rattle.std.proofs.lemmas.Slice.Eq.{bytes_eq-Decides}
-use Rattle.std.proofs.lemmas.Bool.{eq-eqb, eqb-true}
 use Rattle.row_cells.specs.declared.schemas.Field.{Field}
 use Rattle.ts_mapping.specs.Faults.{bad_entries, below_fault, clash_faults, entry_faults, repeated}
 use Rattle.ts_mapping.specs.Fields.{is_dimension_role, paths_of, routing_from}

@@ -1,18 +1,16 @@
 -- Loops of walks over a body, one member further.
-use Rattle.std.proofs.Common.{◌≡◌, BTreeMap, Global, IsSome, String, ℕ, List, [], ◌∷◌, ◌++◌, Bool, true, false, Option, Some, None, filter, refl, sym, ap, ◌∙◌, subst}
-use Rattle.std.specs.Prelude.{codes, bytes_eq, if◌then◌else◌}
+use Rattle.std.proofs.Common.{◌≡◌, BTreeMap, Global, IsSome, String, ℕ, List, [], ◌∷◌, ◌++◌, Bool, true, false, Option, Some, None, refl, sym, ap, ◌∙◌}
+use Rattle.std.specs.Prelude.{if◌then◌else◌}
 use Rattle.std.proofs.lemmas.List.{append_assoc}
-use Rattle.serde_json.specs.Data.{Data, object, Members, no_members, member}
+use Rattle.serde_json.specs.Data.{object}
 use Rattle.serde_json.specs.View.{members_view, view}
 use Rattle.serde_json.specs.declared.value.Value.{Value}
 use Rattle.serde_json.specs.declared.value.Value.TheVariants.{Object}
 use Rattle.serde_json.proofs.Views.{view-Object}
 use Rattle.json_walk.specs.Path.{below}
 use Rattle.ts_mapping.specs.Least.{all_faults, least_with, under}
-use Rattle.ts_mapping.specs.Properties.{Property, inside, listed, listed_members, property_at}
-use Rattle.ts_mapping.specs.Settings.{Setting, flat, flat_members, is_known, unknown_setting}
-use Rattle.ts_mapping.specs.Shapes.{property_faults}
-use Rattle.ts_mapping.specs.Walks.{fields_among, fields_at, known_settings, text_at}
+use Rattle.ts_mapping.specs.Settings.{Setting, is_known}
+use Rattle.ts_mapping.specs.Walks.{known_settings, text_at}
 use Rattle.ts_mapping.proofs.LeastLemmas.{least_with_append}
 
 pub faults_append : {T : Type 0} (f : T → List (List ℕ)) (xs ys : List T) → all_faults f (xs ++ ys) ≡ all_faults f xs ++ all_faults f ys

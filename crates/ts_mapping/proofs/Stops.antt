@@ -1,17 +1,15 @@
 -- Why a walk over properties needn't go on below a path that is too long.
-use Rattle.std.proofs.Common.{◌≡◌, ◌<◌, ◌≤◌, ℕ, List, [], ◌∷◌, ◌++◌, Bool, true, false, ◌&&◌, not, nat_le, Option, Some, None, Ordering, Less, Equal, Greater, length, refl, sym, ap, ◌∙◌, subst, arith}
+use Rattle.std.proofs.Common.{◌≡◌, ◌<◌, ℕ, List, [], ◌∷◌, ◌++◌, Bool, true, false, Option, Some, None, Ordering, Less, Equal, Greater, length, refl, sym, ap, ◌∙◌, subst, arith}
 use Rattle.std.specs.Prelude.{codes, is_some, bytes_eq, if◌then◌else◌}
 use Rattle.std.specs.Cmp.{tied_itself}
 use Rattle.std.specs.Cmp.Lexicographic.{slice_cmp, nat_list_cmp_total}
 use Rattle.std.specs.Ordering.{nat_cmp, match_ordering, ordering_reverse, ordering_then}
-use Rattle.std.proofs.lemmas.Bool.{leb-true}
 use Rattle.std.proofs.lemmas.Cmp.{nat_cmp_total}
 use Rattle.std.proofs.lemmas.List.{append_assoc, append-nil}
 use Rattle.serde_json.specs.Data.{Data, null, boolean, number, string, array, object, Members, no_members, member}
 use Rattle.serde_json.specs.Find.{get}
 use Rattle.json_walk.specs.Path.{below}
 use Rattle.row_cells.specs.Limits.{longest_path}
-use Rattle.ts_mapping.specs.Fields.{kind_of}
 use Rattle.ts_mapping.specs.Least.{all_faults, fault_unless, least_with, lesser, under}
 use Rattle.ts_mapping.specs.LeastLaws.{IsAtMost, at_most_chain, at_most_itself, less_at_most, less_greater, not_behind}
 use Rattle.ts_mapping.specs.PathLaws.{short_path}

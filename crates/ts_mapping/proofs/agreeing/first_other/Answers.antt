@@ -1,4 +1,4 @@
-use Rattle.std.proofs.Common.{◌≡◌, ◌∷◌, ◌+◌, drop, sym, ap, ◌∙◌, subst, arith}
+use Rattle.std.proofs.Common.{◌+◌, drop, sym, ap, ◌∙◌, subst, arith}
 use Rattle.row_cells.specs.Fitting.{FieldsAscend}
 use Rattle.ts_mapping.specs.Agreeing.{from_path, is_other_first, other_path}
 use Rattle.ts_mapping.proofs.Agrees.{found, from_ascends, rest_ascends, walked}

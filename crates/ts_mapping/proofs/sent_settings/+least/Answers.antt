@@ -1,4 +1,4 @@
-use Rattle.std.proofs.Common.{◌≡◌, ℕ, List, Some, None, string_bytes, sym, ap, ◌∙◌}
+use Rattle.std.proofs.Common.{Some, None, string_bytes, sym, ap, ◌∙◌}
 use Rattle.serde_json.specs.View.{members_view, view}
 use Rattle.ts_mapping.specs.Least.{least, under}
 use Rattle.ts_mapping.specs.Settings.{flat}
