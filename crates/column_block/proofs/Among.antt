@@ -9,7 +9,7 @@ use Rattle.std.proofs.lemmas.Bool.{false≢true}
 use Rattle.std.proofs.lemmas.List.{append_assoc, append-nil, take_more}
 use Rattle.std.proofs.lemmas.Map.Text.{is_eq-slice_cmp}
 use Rattle.std.proofs.lemmas.Slice.Eq.{bytes_eq-Decides}
-use Rattle.column_block.specs.Rules.{Each}
+use Rattle.row_cells.specs.Each.{Each}
 use Rattle.column_block.specs.Spelling.{IsIn, joined}
 use Rattle.column_block.specs.Worded.{HaveSame}
 use Rattle.column_block.proofs.Cuts.{joined-append}

@@ -6,7 +6,8 @@ use Rattle.std.proofs.lemmas.Int.{ints, to_z-of_z, fits_signed_from_abs}
 use Rattle.std.specs.Int.{w64, cast_signed, cast_unsigned}
 use Rattle.std.proofs.lemmas.List.{append_assoc, drop_more, take_more, get_or_default, get_or-set_same, get_or-set_other, length-map, length-set}
 use Rattle.column_block.specs.Cutting.{IsShort}
-use Rattle.column_block.specs.Rules.{Each, IsText, IsTextRow, TextsAscend, TextsAscendAfter}
+use Rattle.row_cells.specs.Each.{Each}
+use Rattle.column_block.specs.Rules.{IsText, IsTextRow, TextsAscend, TextsAscendAfter}
 use Rattle.column_block.specs.Spelling.{IsIn, IsTableOf, joined, ordinal, ordinals}
 use Rattle.column_block.specs.Worded.{AreMarked, AreOrdinals, AreTexts, ClimbFrom, texts_at, worded}
 use Rattle.column_block.proofs.Among.{in-left, in-right, in-either, in-at, in-map, from-map, each-at}

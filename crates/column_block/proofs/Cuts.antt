@@ -7,11 +7,12 @@ use Rattle.std.proofs.lemmas.Int.{ints, to_z-of_z, fits_signed_from_abs}
 use Rattle.std.proofs.lemmas.List.{take_more, length-append, length-drop, length-take, take-append-drop, append_assoc, take-map, drop-map, length-map, length-take-le}
 use Rattle.std.proofs.lemmas.List.Elements.{All-push, All-head, All-tail, All-nil, All-cons, All-take, All-drop}
 use Rattle.std.proofs.Math.Seq.{take-add, take-append_seam, drop-append_seam}
+use Rattle.row_cells.specs.Limits.{longest_list}
 use Rattle.column_block.specs.Cutting.{cut, total, IsSize, IsShort, AreStarts}
-use Rattle.column_block.specs.Rules.{Each}
+use Rattle.row_cells.specs.Each.{Each}
 use Rattle.column_block.specs.Spelling.{joined, lengths}
 
-pub size-small : (v : ℤ) → IsSize v → unsigned_abs v ≤ 67108864
+pub size-small : (v : ℤ) → IsSize v → unsigned_abs v ≤ longest_list
 size-small (pos n) h = omega (arith, ints, h.short)
 size-small (negsuc n) h = absurd (omega (arith, ints, h.positive))
 
@@ -108,7 +109,7 @@ short-cut [] xs all = tt
 short-cut (n ∷ ns) xs all =
     (omega (arith, length-take (unsigned_abs n) xs, size-small n (All-head IsSize n ns all)), short-cut ns (drop (unsigned_abs n) xs) (All-tail IsSize n ns all))
 
-pub total-few : (ns : List ℤ) → All IsSize ns → total ns ≤ 67108864 * length ns
+pub total-few : (ns : List ℤ) → All IsSize ns → total ns ≤ longest_list * length ns
 total-few [] all = omega arith
 total-few (n ∷ ns) all = omega (arith, size-small n (All-head IsSize n ns all), total-few ns (All-tail IsSize n ns all))
 
@@ -136,12 +137,12 @@ start-is lists starts lent row sum sizes h l within s t =
     let one : get_or lent k 0 ≡ total (take (128 * k) (lengths lists)) = ap (λ z. get_or z k 0) l ∙ h.each k inside in
     omega (arith, one, t, ap total s, total-part (lengths lists) (128 * k) row (omega arith))
 
-pub start-few : (lists : List (List ℤ)) (row : ℕ) → Each IsShort lists → total (take row (lengths lists)) ≤ 67108864 * length lists
+pub start-few : (lists : List (List ℤ)) (row : ℕ) → Each IsShort lists → total (take row (lengths lists)) ≤ longest_list * length lists
 start-few lists row short =
     let all = All-take IsSize row (lengths lists) (lengths-sizes lists short) in
     omega (arith, total-few (take row (lengths lists)) all, length-take row (lengths lists), length-map lists (λ (xs : List ℤ). pos (length xs)))
 
-pub joined-few : (lists : List (List ℤ)) → Each IsShort lists → length (joined lists) ≤ 67108864 * length lists
+pub joined-few : (lists : List (List ℤ)) → Each IsShort lists → length (joined lists) ≤ longest_list * length lists
 joined-few lists short = omega (arith, total-lengths lists, total-few (lengths lists) (lengths-sizes lists short), length-map lists (λ (xs : List ℤ). pos (length xs)))
 
 pub cut-enough : (lists : List (List ℤ)) (from to : ℕ) (sizes numbers : List ℤ) → sizes ≡ slice_range (lengths lists) from to → numbers ≡ joined (slice_range lists from to) → total sizes ≤ length numbers

@@ -13,9 +13,11 @@ use Rattle.fold_law.specs.Laws.{FoldLaws, fold_of, reach_of_items, fold_of-appen
 use Rattle.fold_law.specs.Gauges.{no_gauge, gauge_of_one, merge_gauges, reach_of_gauge}
 use Rattle.fold_law.specs.declared.measures.Gauge.{Gauge}
 use Rattle.fold_law.specs.declared.measures.Parts.{Parts}
+use Rattle.row_cells.specs.Limits.{most_documents}
 use Rattle.column_block.specs.Presence.{present}
 use Rattle.column_block.specs.Ranges.{parts_of_one}
-use Rattle.column_block.specs.Rules.{AreParts, Each}
+use Rattle.row_cells.specs.Each.{Each}
+use Rattle.column_block.specs.Rules.{AreParts}
 use Rattle.column_block.proofs.Aheads.{count-order, range-values}
 use Rattle.packed_lists.specs.Laws.Placing.{range-on}
 use Rattle.column_block.proofs.SixLists.{none, block-few}
@@ -82,7 +84,7 @@ abs-few : (v : ℤ) → FitsSigned w64 v → unsigned_abs v ≤ 2 ^ 63
 abs-few (pos n) fits = omega (arith, ints, fits)
 abs-few (negsuc n) fits = omega (arith, ints, fits)
 
-count-few : (n : ℤ) → pos 1 ≤ℤ n → n ≤ℤ pos (16777216 * (2 ^ 63 - 1)) → unsigned_abs n ≤ 16777216 * 2 ^ 63
+count-few : (n : ℤ) → pos 1 ≤ℤ n → n ≤ℤ pos (most_documents * (2 ^ 63 - 1)) → unsigned_abs n ≤ most_documents * 2 ^ 63
 count-few (pos n) a b = omega (arith, ints)
 count-few (negsuc n) a b = omega (arith, ints)
 
@@ -94,7 +96,7 @@ numbers-reach (v ∷ ns) h =
 pub numbers-within : (ns : List ℤ) → All (FitsSigned w64) ns → length ns < 2 ^ 32 → reach_of_items reach_of_gauge gauge_of_one (map parts_of_one ns) ≤ 2 ^ 119
 numbers-within ns h few = omega (arith, numbers-reach ns h)
 
-parts-reach : (ps : List Parts) → Each AreParts ps → reach_of_items reach_of_gauge gauge_of_one ps ≤ 16777216 * 2 ^ 63 * length ps
+parts-reach : (ps : List Parts) → Each AreParts ps → reach_of_items reach_of_gauge gauge_of_one ps ≤ most_documents * 2 ^ 63 * length ps
 parts-reach [] h = omega arith
 parts-reach (p ∷ ps) (a, h) =
     omega (arith, sum_by-cons (λ q. reach_of_gauge (gauge_of_one q)) p ps, a.sum_within, count-few p.count a.counted a.count_within, parts-reach ps h)

@@ -1,6 +1,5 @@
 pub mod Presences
 pub mod Aheads
-pub mod Halved
 pub mod Cuts
 pub mod Rowed
 pub mod Wholes

@@ -5,7 +5,8 @@ use Rattle.std.proofs.lemmas.List.{take_all, take-append-drop}
 use Rattle.column_block.specs.declared.kinds.Values.TheVariants.{Wholes}
 use Rattle.column_block.specs.Cutting.{IsShort}
 use Rattle.packed_lists.specs.Nums.{AreNums}
-use Rattle.column_block.specs.Rules.{Ascend, Each, IsNumberRow}
+use Rattle.row_cells.specs.Each.{Each}
+use Rattle.column_block.specs.Rules.{Ascend, IsNumberRow}
 use Rattle.column_block.specs.Spelling.{Spells, joined, lengths}
 use Rattle.column_block.proofs.OneColumn.{same-wholes}
 

@@ -8,16 +8,19 @@ use Rattle.std.proofs.lemmas.Bool.{cases_lt}
 use Rattle.std.proofs.lemmas.List.{append_assoc, length-append, length-map, length-take-le, get_or_append_left}
 use Rattle.fold_law.specs.declared.measures.Parts.{Parts}
 use Rattle.column_pack.specs.Laws.OneList.{block-count, block-size}
+use Rattle.row_cells.specs.Limits.{longest_list}
 use Rattle.column_block.specs.declared.kinds.ColumnKind.{ColumnKind}
 use Rattle.column_block.specs.declared.kinds.Values.{Values}
 use Rattle.column_block.specs.declared.kinds.Values.TheVariants.{Whole, Parts as PartsOf, Wholes, Words}
 use Rattle.packed_lists.specs.Nums.{IsNums, AreNums}
 use Rattle.column_block.specs.Presence.{presence, present, flags_of, flags_in, ones, spread}
-use Rattle.column_block.specs.Rules.{Each, IsText, IsTextRow, IsColumnOf, KeepsRules, kind_of, rows_of}
-use Rattle.column_block.specs.Spelling.{IsIn, IsAhead, IsTableOf, Spells, high, low, whole_of, joined, lengths, ordinal, ordinals, six_lists, table_bytes, text_bytes}
+use Rattle.row_cells.specs.Each.{Each}
+use Rattle.column_block.specs.Rules.{IsText, IsTextRow, IsColumnOf, KeepsRules, kind_of, rows_of}
+use Rattle.row_cells.specs.Dimensions.{text_bytes}
+use Rattle.column_block.specs.Spelling.{IsIn, IsAhead, IsTableOf, Spells, high, low, whole_of, joined, lengths, ordinal, ordinals, six_lists, table_bytes}
 use Rattle.packed_lists.specs.Laws.Spelled.{AreAlike, one-each, same-each}
 use Rattle.packed_lists.specs.Laws.Fronts.{same-fronts, same-nums}
-use Rattle.column_block.proofs.Halved.{joined as halves-joined}
+use Rattle.column_block.specs.HalfLaws.{joined as halves-joined}
 use Rattle.column_block.proofs.Presences.{flags-are, length-present, spread-present}
 use Rattle.column_block.proofs.TextTables.{in-each, each-of, each-append, same-table, no-longer, same-ordinals, same-texts, same-many, more-first, same-eight}
 
@@ -169,14 +172,14 @@ joined-texts : (lists : List (List (List ℕ))) → Each IsTextRow lists → Eac
 joined-texts [] h = tt
 joined-texts (ts ∷ lists) h = each-append IsText ts (joined lists) h.0.texts (joined-texts lists h.1)
 
-joined-few : (lists : List (List (List ℕ))) → Each IsTextRow lists → length (joined lists) ≤ 67108864 * length lists
+joined-few : (lists : List (List (List ℕ))) → Each IsTextRow lists → length (joined lists) ≤ longest_list * length lists
 joined-few [] h = omega arith
 joined-few (ts ∷ lists) h = omega (arith, h.0.few, length-append ts (joined lists), joined-few lists h.1)
 
 table-texts : (ts : List (List ℕ)) (lists : List (List (List ℕ))) → IsTableOf ts lists → Each IsTextRow lists → Each IsText ts
 table-texts ts lists t h = each-of IsText ts (λ u i. in-each IsText u (joined lists) ((t.occur u).0 i) (joined-texts lists h))
 
-table-few : (ts : List (List ℕ)) (lists : List (List (List ℕ))) → IsTableOf ts lists → Each IsTextRow lists → length ts ≤ 67108864 * length lists
+table-few : (ts : List (List ℕ)) (lists : List (List (List ℕ))) → IsTableOf ts lists → Each IsTextRow lists → length ts ≤ longest_list * length lists
 table-few ts lists t h = omega (arith, no-longer ts (joined lists) t.ascend (λ u i. (t.occur u).0 i), joined-few lists h)
 
 in-table : (ts : List (List ℕ)) (lists : List (List (List ℕ))) → IsTableOf ts lists → Each (λ t. IsIn t ts) (joined lists)
@@ -198,7 +201,7 @@ not-fewer ts us vs nums x y h k g many e fewer =
     absurd (omega (arith, nums-first vs nums x g many, ap (λ (z : List ℕ). get_or z 0 0) rest.1, more-first us (length ts) y fewer k))
 
 -- a table's bytes tell how many texts it has, by their number or, where so many would be cut, by what follows
-as-many-texts : (ts us : List (List ℕ)) (rows : ℕ) (vs ws : List ℤ) (c d x y : List ℕ) → Each IsText ts → Each IsText us → length ts ≤ 67108864 * rows → length us ≤ 67108864 * rows
+as-many-texts : (ts us : List (List ℕ)) (rows : ℕ) (vs ws : List ℤ) (c d x y : List ℕ) → Each IsText ts → Each IsText us → length ts ≤ longest_list * rows → length us ≤ longest_list * rows
     → length vs ≡ rows → length ws ≡ rows → IsNums vs c → IsNums ws d → to_be_bytes w64 (length ts) ≡ to_be_bytes w64 (length us)
     → flat_map text_bytes ts ++ (c ++ x) ≡ flat_map text_bytes us ++ (d ++ y) → length ts ≡ length us
 as-many-texts ts us rows vs ws c d x y h k few_ts few_us n m g l eight e = elim (cases_lt rows 128) [
@@ -220,7 +223,7 @@ same-words vs ws a b x y n rules_v rules_w (ts, t, (r, (c, r2, g, h, e2), e)) (u
     let texts_t = table-texts ts vs t rules_v in
     let texts_u = table-texts us ws u rules_w in
     let many : length ts ≡ length us = as-many-texts ts us (length vs) (lengths vs) (lengths ws) c d (r2 ++ x) (s2 ++ y) texts_t texts_u
-    (table-few ts vs t rules_v) (subst (λ z. length us ≤ 67108864 * z) (sym n) (table-few us ws u rules_w))
+    (table-few ts vs t rules_v) (subst (λ z. length us ≤ longest_list * z) (sym n) (table-few us ws u rules_w))
     (length-map vs (λ z. pos (length z))) (length-map ws (λ z. pos (length z)) ∙ sym n) g k split.0
     (ap (λ z. flat_map text_bytes ts ++ z) (sym (append_assoc c r2 x) ∙ ap (λ z. z ++ x) (sym e2)) ∙ split.1 ∙ ap (λ z. flat_map text_bytes us ++ z) (ap (λ z. z ++ y) f2 ∙ append_assoc d s2 y)) in
     let table = same-many ts us (r ++ x) (s ++ y) many texts_t texts_u split.1 in

@@ -10,7 +10,8 @@ use Rattle.packed_lists.specs.Nums.{AreNums}
 use Rattle.packed_lists.specs.Decoded.{ArePlaced, values_at}
 use Rattle.column_block.specs.HeldParts.{IsPartsColumn, AreListsFound, first_parts, rows_held}
 use Rattle.column_block.specs.Presence.{presence, present, flags_of, flags_in, ones, spread, AreCounts}
-use Rattle.column_block.specs.Rules.{AreParts, Each}
+use Rattle.row_cells.specs.Each.{Each}
+use Rattle.column_block.specs.Rules.{AreParts}
 use Rattle.column_block.specs.Spelling.{Spells, six_lists, high, low}
 use Rattle.column_block.proofs.Aheads.{flags-known, flags-spread, present-spread, presence-size}
 use Rattle.packed_lists.specs.Laws.Spelled.{AreAlike, same-each}

@@ -7,7 +7,7 @@ use Rattle.packed_lists.specs.Nums.{IsNums, AreNums}
 use Rattle.packed_lists.specs.Decoded.{AreBlocksAt, values_at}
 use Rattle.packed_lists.specs.Found.{IsFound}
 use Rattle.column_block.specs.Cutting.{cut, total, IsSize, IsShort, AreStarts, AreRows, lists_at}
-use Rattle.column_block.specs.Rules.{Each}
+use Rattle.row_cells.specs.Each.{Each}
 use Rattle.column_block.specs.Spelling.{joined, lengths}
 use Rattle.packed_lists.specs.Laws.Decodes.{values_at-is}
 use Rattle.packed_lists.specs.Laws.Fronts.{take-front, drop-front}

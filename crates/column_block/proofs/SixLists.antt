@@ -13,12 +13,12 @@ use Rattle.packed_lists.specs.Nums.{IsNums, AreNums}
 use Rattle.packed_lists.specs.Decoded.{IsBlockAt, AreBlocksAt, ArePlaced, values_at}
 use Rattle.packed_lists.specs.Found.{IsFound}
 use Rattle.column_block.specs.HeldParts.{BeginsLists, AreListsAhead, number_at, parts_at, first_parts}
-use Rattle.column_block.specs.Rules.{Each}
+use Rattle.row_cells.specs.Each.{Each}
 use Rattle.column_block.specs.Spelling.{six_lists, high, low, whole_of}
 use Rattle.packed_lists.specs.Laws.Decodes.{values_at-is}
 use Rattle.packed_lists.specs.Laws.Spelled.{nums-push, placed-before, placed-push}
 use Rattle.packed_lists.specs.Laws.Fronts.{same-nums, nums-fit}
-use Rattle.column_block.proofs.Halved.{joined, low-again}
+use Rattle.column_block.specs.HalfLaws.{joined, low-again}
 use Rattle.packed_lists.specs.Laws.Placing.{places-count, block-range, part-of-block}
 
 pub each-push : {A : Type 0} (P : A → Type 0) (xs : List A) (x : A) → Each P xs → P x → Each P (xs ++ x ∷ [])

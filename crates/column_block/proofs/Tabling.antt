@@ -1,8 +1,8 @@
 -- Tables of texts, ascending by bytes, and how they are spelled.
 use Rattle.std.proofs.Common.{◌≡◌, ◌↔◌, inl, inr, ℕ, suc, zero, ◌+◌, ◌-◌, ◌<◌, ◌≤◌, ◌^◌, Bool, true, false, List, [], ◌∷◌, ◌++◌, length, get_or, take, drop, refl, sym, ◌∙◌, ap, subst, arith, Less, Equal, Greater}
-use Rattle.std.specs.Prelude.{IsUtf8, if◌then◌else◌}
+use Rattle.std.specs.Prelude.{if◌then◌else◌}
 use Rattle.std.specs.Cmp.Lexicographic.{slice_cmp}
-use Rattle.std.specs.Int.{w16, w64, to_be_bytes, from_be_bytes}
+use Rattle.std.specs.Int.{w64, to_be_bytes, from_be_bytes}
 use Rattle.std.specs.List.{flat_map, AllByRecursion}
 use Rattle.std.specs.List.Sorted.{IsStrictlySortedBy}
 use Rattle.std.specs.Ordering.{nat_cmp, is_eq, ordering_reverse}
@@ -11,10 +11,14 @@ use Rattle.std.proofs.lemmas.Bool.{false≢true, cases_lt}
 use Rattle.std.proofs.lemmas.Cmp.{nat_list_cmp_total}
 use Rattle.std.proofs.lemmas.List.{append_assoc, append-nil, length-append, take_more, take_all, drop_more, length-take, get_or_default, take-append-drop}
 use Rattle.std.proofs.lemmas.Map.Text.{is_eq-slice_cmp}
-use Rattle.std.proofs.lemmas.Nat.{from_be_bytes-to_be_bytes_2, from_be_bytes-to_be_bytes_8, be_bytes_2, be_bytes_8}
+use Rattle.std.proofs.lemmas.Nat.{from_be_bytes-to_be_bytes_8, be_bytes_8}
 use Rattle.std.proofs.lemmas.Slice.Eq.{bytes_eq-Decides}
-use Rattle.column_block.specs.Rules.{Each, IsBefore, IsText, TextsAscend, TextsAscendAfter}
-use Rattle.column_block.specs.Spelling.{IsIn, ordinal, table_bytes, text_bytes}
+use Rattle.row_cells.specs.Each.{Each}
+use Rattle.row_cells.specs.Dimensions.{IsBefore}
+use Rattle.column_block.specs.Rules.{IsText, TextsAscend, TextsAscendAfter}
+use Rattle.row_cells.specs.Dimensions.{text_bytes}
+use Rattle.row_cells.specs.KeyLaws.{text_bytes_injective}
+use Rattle.column_block.specs.Spelling.{IsIn, ordinal, table_bytes}
 use Rattle.column_block.specs.Worded.{AreTexts}
 use Rattle.column_block.proofs.Among.{in-at, each-append}
 use Rattle.packed_lists.specs.Laws.Fronts.{same-fronts}
@@ -164,38 +168,14 @@ texts-more ts t h a k = record { ascend = a; each = each-append IsText ts (t ∷
 -- a text's bytes say where it ends
 pub text-one : (t u x y : List ℕ) → IsText t → IsText u → text_bytes t ++ x ≡ text_bytes u ++ y → (t ≡ u) × (x ≡ y)
 text-one t u x y h k e =
-    let split : to_be_bytes w16 (length t) ++ (t ++ x) ≡ to_be_bytes w16 (length u) ++ (u ++ y) = e in
-    let r = same-fronts (to_be_bytes w16 (length t)) (to_be_bytes w16 (length u)) (t ++ x) (u ++ y) refl split in
-    let n : length t ≡ length u = sym (from_be_bytes-to_be_bytes_2 (length t) (omega (arith, h.short))) ∙ (ap (from_be_bytes w16) r.0 ∙ from_be_bytes-to_be_bytes_2 (length u) (omega (arith, k.short))) in
-    same-fronts t u x y n r.1
-
--- what is read as a text is one
-pub text-read : (head text rest : List ℕ) → length head ≡ 2 → ((i : ℕ) → get_or head i 0 < 256) → length text ≡ from_be_bytes w16 head → head ++ (text ++ rest) ≡ text_bytes text ++ rest
-text-read head text rest two small count = ap (λ h. h ++ (text ++ rest)) (sym (be_bytes_2 head (length text) two small count)) ∙ sym (append_assoc (to_be_bytes w16 (length text)) text rest)
+    let same = text_bytes_injective t u x y (omega (arith, h.short)) (omega (arith, k.short)) e in
+    (same.text, same.rest_is)
 
 small-take : (n : ℕ) (xs : List ℕ) → ((i : ℕ) → get_or xs i 0 < 256) → (i : ℕ) → get_or (take n xs) i 0 < 256
 small-take zero xs h i = omega arith
 small-take (suc n) [] h i = omega arith
 small-take (suc n) (x ∷ xs) h zero = h 0
 small-take (suc n) (x ∷ xs) h (suc i) = small-take n xs (λ k. h (suc k)) i
-
--- the first two bytes count the text that follows
-pub text-split : (bytes head tail text rest shown : List ℕ) (count : ℕ) → ((i : ℕ) → get_or bytes i 0 < 256) → head ≡ take 2 bytes → tail ≡ drop 2 bytes → length tail + 2 ≡ length bytes → count ≡ from_be_bytes w16 head → count ≤ 32766
-    → text ≡ take count tail → rest ≡ drop count tail → length text ≡ count → shown ≡ text → IsUtf8 text → (bytes ≡ text_bytes shown ++ rest) × IsText shown
-text-split bytes head tail text rest shown count small head_is tail_is long counted short text_is rest_is whole s utf8 =
-    let two : length head ≡ 2 = omega (arith, ap (λ (z : List ℕ). length z) head_is, length-take 2 bytes, long) in
-    let head_small : (i : ℕ) → get_or head i 0 < 256 = λ i. rw head_is (small-take 2 bytes small i) in
-    let joined : bytes ≡ head ++ (text ++ rest) = sym (rw (head_is, text_is, rest_is, take-append-drop count tail, tail_is) (take-append-drop 2 bytes)) in (
-      joined ∙ text-read head text rest two head_small (whole ∙ counted) ∙ ap (λ z. text_bytes z ++ rest) (sym s),
-      record { utf8 = subst IsUtf8 (sym s) utf8; short = omega (arith, ap (λ (z : List ℕ). length z) s, whole, short) },
-    )
-
--- bytes that begin with a text have its length and as many bytes
-pub text-whole : (head tail text rest : List ℕ) → length head ≡ 2 → IsText text → head ++ tail ≡ text_bytes text ++ rest → (from_be_bytes w16 head ≡ length text) × (tail ≡ text ++ rest)
-text-whole head tail text rest two h e =
-    let split : head ++ tail ≡ to_be_bytes w16 (length text) ++ (text ++ rest) = e in
-    let r = same-fronts head (to_be_bytes w16 (length text)) tail (text ++ rest) two split in
-    (ap (from_be_bytes w16) r.0 ∙ from_be_bytes-to_be_bytes_2 (length text) (omega (arith, h.short)), r.1)
 
 pub same-texts : (ts us : List (List ℕ)) (x y : List ℕ) → Each IsText ts → Each IsText us → length ts ≤ length us → flat_map text_bytes ts ++ x ≡ flat_map text_bytes us ++ y
     → (ts ≡ take (length ts) us) × (x ≡ flat_map text_bytes (drop (length ts) us) ++ y)

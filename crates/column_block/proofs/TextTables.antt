@@ -3,16 +3,20 @@ use Rattle.std.proofs.Common.{◌≡◌, ℕ, pos, suc, zero, ◌+◌, ◌<◌, 
 use Rattle.std.specs.Prelude.{if◌then◌else◌}
 use Rattle.std.specs.Cmp.{tied_itself}
 use Rattle.std.specs.Cmp.Lexicographic.{nat_list_cmp_total}
-use Rattle.std.specs.Int.{w16, w64, to_be_bytes, from_be_bytes}
+use Rattle.std.specs.Int.{w64, to_be_bytes, from_be_bytes}
 use Rattle.std.specs.List.{flat_map}
 use Rattle.std.specs.Str.{bytes_eq}
 use Rattle.std.specs.declared.cmp.Ordering.TheVariants.{Less, Equal}
 use Rattle.std.proofs.lemmas.List.{append_assoc, take_all, drop_all}
-use Rattle.std.proofs.lemmas.Nat.{from_be_bytes-to_be_bytes_2, from_be_bytes-to_be_bytes_8}
+use Rattle.std.proofs.lemmas.Nat.{from_be_bytes-to_be_bytes_8}
 use Rattle.std.proofs.lemmas.Slice.Eq.{bytes_eq-Decides}
-use Rattle.column_block.specs.Rules.{Each, IsBefore, IsText, TextsAscend, TextsAscendAfter}
-use Rattle.column_block.specs.Spelling.{IsIn, ordinal, ordinals, text_bytes}
-use Rattle.packed_lists.specs.Laws.Fronts.{same-fronts}
+use Rattle.row_cells.specs.Each.{Each}
+use Rattle.row_cells.specs.Dimensions.{IsBefore}
+use Rattle.row_cells.specs.Limits.{longest_word}
+use Rattle.column_block.specs.Rules.{IsText, TextsAscend, TextsAscendAfter}
+use Rattle.row_cells.specs.Dimensions.{text_bytes}
+use Rattle.column_block.specs.Spelling.{IsIn, ordinal, ordinals}
+use Rattle.column_block.proofs.Tabling.{text-one}
 
 -- ---- items of lists
 
@@ -121,21 +125,13 @@ same-ordinals ts (x ∷ xs) (y ∷ ys) h k e =
 
 -- ---- bytes
 
-pub same-text : (t u x y : List ℕ) → IsText t → IsText u → text_bytes t ++ x ≡ text_bytes u ++ y → (t ≡ u) × (x ≡ y)
-same-text t u x y h k e =
-    let split : to_be_bytes w16 (length t) ++ (t ++ x) ≡ to_be_bytes w16 (length u) ++ (u ++ y) = e in
-    let both = same-fronts (to_be_bytes w16 (length t)) (to_be_bytes w16 (length u)) (t ++ x) (u ++ y) refl split in
-    let n : length t ≡ length u =
-    sym (from_be_bytes-to_be_bytes_2 (length t) (omega (arith, h.short))) ∙ ap (from_be_bytes w16) both.0 ∙ from_be_bytes-to_be_bytes_2 (length u) (omega (arith, k.short)) in
-    same-fronts t u x y n both.1
-
 -- texts that begin with as many others are these, and then the rest
 pub same-texts : (ts us : List (List ℕ)) (x y : List ℕ) → length ts ≤ length us → Each IsText ts → Each IsText us → flat_map text_bytes ts ++ x ≡ flat_map text_bytes us ++ y
     → (ts ≡ take (length ts) us) × (x ≡ flat_map text_bytes (drop (length ts) us) ++ y)
 same-texts [] us x y few h k e = (refl, e)
 same-texts (t ∷ ts) [] x y few h k e = absurd (omega (arith, few))
 same-texts (t ∷ ts) (u ∷ us) x y few h k e =
-    let first = same-text t u (flat_map text_bytes ts ++ x) (flat_map text_bytes us ++ y) h.0 k.0
+    let first = text-one t u (flat_map text_bytes ts ++ x) (flat_map text_bytes us ++ y) h.0 k.0
     (sym (append_assoc (text_bytes t) (flat_map text_bytes ts) x) ∙ e ∙ append_assoc (text_bytes u) (flat_map text_bytes us) y) in
     let rest = same-texts ts us x y (omega (arith, few)) h.1 k.1 first.1 in
     (ap (λ z. z ∷ ts) first.0 ∙ ap (λ z. u ∷ z) rest.0, rest.1)
@@ -147,7 +143,7 @@ same-many ts us x y n h k e =
     (s.0 ∙ take_all (length ts) us (omega (arith, n)), s.1 ∙ ap (λ z. flat_map text_bytes z ++ y) (drop_all (length ts) us (omega (arith, n))))
 
 -- the first byte of a text's length is below 128
-text-first : (t rest : List ℕ) → length t ≤ 32766 → get_or (text_bytes t ++ rest) 0 0 < 128
+text-first : (t rest : List ℕ) → length t ≤ longest_word → get_or (text_bytes t ++ rest) 0 0 < 128
 text-first t rest short = omega (arith, short)
 
 -- texts stand where there are more of them

@@ -5,7 +5,8 @@ use Rattle.std.proofs.lemmas.List.{append_assoc, length-append, length-map, leng
 use Rattle.column_block.specs.declared.kinds.Values.TheVariants.{Words}
 use Rattle.column_block.specs.Cutting.{Fronted, IsShort, cut, total}
 use Rattle.packed_lists.specs.Nums.{AreNums}
-use Rattle.column_block.specs.Rules.{Each, IsText, IsTextRow, KeepsRules, TextsAscend}
+use Rattle.row_cells.specs.Each.{Each}
+use Rattle.column_block.specs.Rules.{IsText, IsTextRow, KeepsRules, TextsAscend}
 use Rattle.column_block.specs.Spelling.{IsIn, IsTableOf, Spells, joined, lengths, ordinal, ordinals, table_bytes}
 use Rattle.column_block.specs.Worded.{AreOrdinals, AreTexts, AreWords, ClimbFrom, HaveSame, texts_at, worded}
 use Rattle.column_block.proofs.Among.{in-either, each-in, each-all, each-range}

@@ -2,7 +2,8 @@
 use Rattle.std.specs.Prelude.{◌≡◌, ℕ, ℤ, pos, ◌≤ℤ◌, ◌+◌, ◌*◌, ◌/◌, ◌<◌, ◌≤◌, ◌^◌, List, [], ◌∷◌, length, take, drop, slice_index, unsigned_abs}
 use Rattle.packed_lists.specs.Decoded.{AreBlocksAt, values_at}
 use Rattle.packed_lists.specs.Nums.{AreNums}
-use Rattle.column_block.specs.Rules.{Each}
+use Rattle.row_cells.specs.Limits.{longest_list}
+use Rattle.row_cells.specs.Each.{Each}
 use Rattle.column_block.specs.Spelling.{joined, lengths}
 
 -- items cut into lists of some lengths
@@ -23,7 +24,7 @@ pub record Fronted : Type 0 where
 -- the length of a list
 pub record IsSize (n : ℤ) : Type 0 where
   pub positive : pos 0 ≤ℤ n
-  pub short : n ≤ℤ pos 67108864
+  pub short : n ≤ℤ pos longest_list
 
 -- how many items the lists before each 128th have, by their lengths
 pub record AreStarts (sizes : List ℤ) (starts : List ℕ) : Type 0 where
@@ -31,7 +32,7 @@ pub record AreStarts (sizes : List ℤ) (starts : List ℕ) : Type 0 where
   pub each : (k : ℕ) → k < length starts → slice_index starts k ≡ total (take (128 * k) sizes)
 
 abbrev pub IsShort : List ℤ → Type 0
-IsShort xs = length xs ≤ 67108864
+IsShort xs = length xs ≤ longest_list
 
 -- what is kept of lists beside their bytes
 pub record AreRows (front rows : ℕ) (bytes sizes numbers starts : List ℕ) (lists : List (List ℤ)) : Type 0 where

@@ -6,7 +6,8 @@ use Rattle.column_block.specs.declared.kinds.Values.TheVariants.{Parts as PartsO
 use Rattle.packed_lists.specs.Decoded.{ArePlaced, values_at}
 use Rattle.packed_lists.specs.Nums.{AreNums}
 use Rattle.column_block.specs.Presence.{present, ones, flags_in, spread, AreCounts}
-use Rattle.column_block.specs.Rules.{AreParts, Each}
+use Rattle.row_cells.specs.Each.{Each}
+use Rattle.column_block.specs.Rules.{AreParts}
 use Rattle.column_block.specs.Spelling.{Spells, six_lists, whole_of}
 
 -- the number at a place of one of some lists

@@ -4,6 +4,7 @@ pub mod Spelling
 pub mod Ranges
 pub mod Held
 pub mod Cutting
+pub mod HalfLaws
 pub mod Worded
 pub mod Columned
 pub mod HeldParts

@@ -1,9 +1,9 @@
 -- What values a column may hold.
 use Rattle.std.specs.Prelude.{◌≡◌, ℕ, ℤ, pos, ◌≤ℤ◌, ◌-◌, ◌*◌, ◌≤◌, ◌^◌, List, [], ◌∷◌, length, IsUtf8, unsigned_abs}
-use Rattle.std.specs.Cmp.Lexicographic.{slice_cmp}
-use Rattle.std.specs.Ordering.{nat_cmp}
-use Rattle.std.specs.declared.cmp.Ordering.TheVariants.{Less}
 use Rattle.fold_law.specs.declared.measures.Parts.{Parts}
+use Rattle.row_cells.specs.Dimensions.{IsBefore}
+use Rattle.row_cells.specs.Each.{Each}
+use Rattle.row_cells.specs.Limits.{longest_list, longest_word, most_documents}
 use Rattle.column_block.specs.declared.kinds.Values.{Values}
 use Rattle.column_block.specs.declared.kinds.Values.TheVariants.{Whole, Parts as PartsOf, Wholes, Words}
 use Rattle.column_block.specs.declared.kinds.ColumnKind.{ColumnKind}
@@ -23,16 +23,11 @@ rows_of (PartsOf ps) = length ps
 rows_of (Wholes lists) = length lists
 rows_of (Words lists) = length lists
 
--- each item has a property
-abbrev pub Each : {A : Type 0} → (A → Type 0) → List A → Type 0
-Each P [] = Unit {0}
-Each P (x ∷ xs) = P x × Each P xs
-
--- the parts of at most 16,777,216 documents, each with at most 2^63 - 1 values of 64 bits
+-- the parts of the documents of an index, each with at most 2^63 - 1 values of 64 bits
 pub record AreParts (p : Parts) : Type 0 where
   pub counted : pos 1 ≤ℤ p.count
-  pub count_within : p.count ≤ℤ pos (16777216 * (2 ^ 63 - 1))
-  pub sum_within : unsigned_abs p.sum ≤ 16777216 * 2 ^ 63
+  pub count_within : p.count ≤ℤ pos (most_documents * (2 ^ 63 - 1))
+  pub sum_within : unsigned_abs p.sum ≤ most_documents * 2 ^ 63
 
 abbrev pub AscendAfter : ℤ → List ℤ → Type 0
 AscendAfter low [] = Unit {0}
@@ -42,10 +37,6 @@ AscendAfter low (v ∷ vs) = (low ≤ℤ v) × AscendAfter v vs
 abbrev pub Ascend : List ℤ → Type 0
 Ascend [] = Unit {0}
 Ascend (v ∷ vs) = AscendAfter v vs
-
--- the order of texts by their bytes
-abbrev pub IsBefore : List ℕ → List ℕ → Type 0
-IsBefore a b = slice_cmp nat_cmp a b ≡ Less
 
 abbrev pub TextsAscendAfter : List ℕ → List (List ℕ) → Type 0
 TextsAscendAfter low [] = Unit {0}
@@ -58,14 +49,14 @@ TextsAscend (t ∷ ts) = TextsAscendAfter t ts
 
 pub record IsText (t : List ℕ) : Type 0 where
   pub utf8 : IsUtf8 t
-  pub short : length t ≤ 32766
+  pub short : length t ≤ longest_word
 
 pub record IsNumberRow (vs : List ℤ) : Type 0 where
-  pub few : length vs ≤ 67108864
+  pub few : length vs ≤ longest_list
   pub ascend : Ascend vs
 
 pub record IsTextRow (ts : List (List ℕ)) : Type 0 where
-  pub few : length ts ≤ 67108864
+  pub few : length ts ≤ longest_list
   pub ascend : TextsAscend ts
   pub texts : Each IsText ts
 

@@ -1,12 +1,13 @@
 -- The bytes of a column.
 use Rattle.std.specs.Prelude.{◌≡◌, ◌↔◌, ◌⊎◌, ℕ, ℤ, pos, ◌+ℤ◌, ◌*ℤ◌, ◌+◌, ◌^◌, List, [], ◌∷◌, ◌++◌, length, map, unsigned_abs, if◌then◌else◌}
-use Rattle.std.specs.Int.{w16, w64, to_be_bytes, int_div_euclid, int_rem_euclid, cast_signed, cast_unsigned}
+use Rattle.std.specs.Int.{w64, to_be_bytes, int_div_euclid, int_rem_euclid, cast_signed, cast_unsigned}
 use Rattle.std.specs.List.{flat_map}
 use Rattle.std.specs.Str.{bytes_eq}
 use Rattle.fold_law.specs.declared.measures.Parts.{Parts}
 use Rattle.column_block.specs.declared.kinds.Values.{Values}
 use Rattle.column_block.specs.declared.kinds.Values.TheVariants.{Whole, Parts as PartsOf, Wholes, Words}
 use Rattle.packed_lists.specs.Nums.{AreNums}
+use Rattle.row_cells.specs.Dimensions.{text_bytes}
 use Rattle.column_block.specs.Presence.{presence, present, flags_of}
 use Rattle.column_block.specs.Rules.{TextsAscend}
 
@@ -52,10 +53,6 @@ ordinal (u ∷ us) t = if bytes_eq u t then 0 else 1 + ordinal us t
 
 abbrev pub ordinals : List (List ℕ) → List (List ℕ) → List ℤ
 ordinals texts ts = map (λ t. pos (ordinal texts t)) ts
-
--- two bytes of length, and the text
-abbrev pub text_bytes : List ℕ → List ℕ
-text_bytes t = to_be_bytes w16 (length t) ++ t
 
 -- eight bytes of how many texts there are, and the texts
 abbrev pub table_bytes : List (List ℕ) → List ℕ

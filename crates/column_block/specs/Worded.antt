@@ -1,7 +1,8 @@
 -- Lists of texts by their places in a table.
 use Rattle.std.specs.Prelude.{◌≡◌, ◌↔◌, ℕ, ℤ, pos, ◌+ℤ◌, ◌≤ℤ◌, ◌<ℤ◌, ◌<◌, Bool, false, IsTrue, List, [], ◌∷◌, length, map, get_or, unsigned_abs}
 use Rattle.column_block.specs.Cutting.{Fronted}
-use Rattle.column_block.specs.Rules.{Each, IsText, IsTextRow, TextsAscend}
+use Rattle.row_cells.specs.Each.{Each}
+use Rattle.column_block.specs.Rules.{IsText, IsTextRow, TextsAscend}
 use Rattle.column_block.specs.Spelling.{IsIn, IsTableOf, joined, ordinals, table_bytes}
 
 -- the texts at some places of a table

@@ -3,7 +3,7 @@ ghost use Rattle.std.specs.Prelude.{◌≡◌, ℕ, ℤ, ◌<◌, ◌≤◌, ◌
 ghost use Rattle.column_block.specs.Cutting.{IsShort, IsSize, total};
 ghost use Rattle.packed_lists.specs.Found.{IsFound};
 ghost use Rattle.packed_lists.specs.Nums.{AreNums, IsNums};
-ghost use Rattle.column_block.specs.Rules.{Each};
+ghost use Rattle.row_cells.specs.Each.{Each};
 ghost use Rattle.column_block.specs.Spelling.{joined, lengths};
 
 use crate::kinds::{ColumnError, Numbers};

@@ -1,6 +1,7 @@
 //! Columns of lists of whole numbers.
 ghost use Rattle.std.specs.Prelude.{◌≡◌, ◌↔◌, ℕ, ℤ, ◌<◌, ◌≤◌, ◌^◌, ◌++◌, List, length, take, slice_range, IfOk, IsTrue, Err};
-ghost use Rattle.column_block.specs.Rules.{Ascend, AscendAfter, Each, IsNumberRow};
+ghost use Rattle.row_cells.specs.Each.{Each};
+ghost use Rattle.column_block.specs.Rules.{Ascend, AscendAfter, IsNumberRow};
 ghost use Rattle.column_block.specs.Spelling.{Spells};
 
 use crate::kinds::{ColumnError, Numbers, Values};
@@ -52,7 +53,8 @@ pub struct NumberRows {
 
 impl Model for NumberRows {
     ghost use Rattle.std.specs.Prelude.{◌≡◌, List, [], ℤ};
-    ghost use Rattle.column_block.specs.Rules.{Each, IsNumberRow};
+    ghost use Rattle.row_cells.specs.Each.{Each};
+    ghost use Rattle.column_block.specs.Rules.{IsNumberRow};
 
     ghost Value = { List (List ℤ) };
 

@@ -1,6 +1,7 @@
 //! Lists of texts as lists of their places in a table.
 ghost use Rattle.std.specs.Prelude.{◌≡◌, ℕ, ℤ, pos, ◌<◌, ◌<ℤ◌, ◌≤ℤ◌, ◌^◌, ◌++◌, ◌↔◌, Bool, List, length, map, get_or, IfOk, OnOk, IsTrue, false};
-ghost use Rattle.column_block.specs.Rules.{Each, TextsAscend};
+ghost use Rattle.row_cells.specs.Each.{Each};
+ghost use Rattle.column_block.specs.Rules.{TextsAscend};
 ghost use Rattle.column_block.specs.Spelling.{IsIn, joined, ordinals};
 ghost use Rattle.column_block.specs.Worded.{AreMarked, AreOrdinals, ClimbFrom, texts_at, worded};
 

@@ -2,7 +2,8 @@
 ghost use Rattle.std.specs.Prelude.{◌≡◌, ℕ, ◌+◌, ◌*◌, ◌<◌, ◌≤◌, ◌^◌, ◌++◌, List, Option, length, take, slice_range, IfOk, Err};
 ghost use Rattle.fold_law.specs.declared.measures.Parts.{Parts};
 ghost use Rattle.column_block.specs.Presence.{present};
-ghost use Rattle.column_block.specs.Rules.{AreParts, Each};
+ghost use Rattle.row_cells.specs.Each.{Each};
+ghost use Rattle.column_block.specs.Rules.{AreParts};
 ghost use Rattle.column_block.specs.Spelling.{Spells};
 
 use crate::kinds::{ColumnError, Values};

@@ -1,18 +1,17 @@
 //! Lists of whole numbers, a list a row, behind other bytes.
 ghost use Rattle.std.specs.Prelude.{◌≡◌, ℕ, ℤ, pos, ◌*◌, ◌+◌, ◌<◌, ◌≤◌, ◌≤ℤ◌, ◌^◌, ◌++◌, List, [], ◌∷◌, length, take, drop, map, slice_range, unsigned_abs, All, IfOk, OnOk, Err, IsTrue, ◌↔◌};
+ghost use Rattle.row_cells.specs.Limits.{longest_list};
 ghost use Rattle.column_block.specs.Cutting.{cut, total, AreStarts, IsShort, IsSize};
 ghost use Rattle.packed_lists.specs.Nums.{AreNums};
-ghost use Rattle.column_block.specs.Rules.{Each};
+ghost use Rattle.row_cells.specs.Each.{Each};
 ghost use Rattle.column_block.specs.Spelling.{joined, lengths};
 
 use crate::kinds::Numbers;
 use edge_face::NoMemory;
 use packed_lists::BLOCK;
+use row_cells::LONGEST_LIST;
 use sqlite_items::Items;
 use std::alloc::Global;
-
-/// The most items that a list may have.
-const LIST_LIMIT: i64 = 67_108_864;
 
 /// The lengths of lists.
 pub fn sizes_of(alloc: Global, lists: &[Numbers]) -> Result<Vec<i64>, NoMemory>
@@ -41,7 +40,7 @@ pub fn sum_of(sizes: &[i64]) -> usize
     requires sizes { All IsSize sizes.now }
     requires few { length sizes.now < 2 ^ 32 }
     ensures sum { result ≡ total sizes.now }
-    ensures few { result ≤ 67108864 * length sizes.now }
+    ensures few { result ≤ longest_list * length sizes.now }
 {
     let mut sum = 0usize;
     for size in sizes {
@@ -57,7 +56,7 @@ fn is_size(size: &i64) -> bool
     if size < 0 {
         return false;
     }
-    size <= LIST_LIMIT
+    size <= LONGEST_LIST as i64
 }
 
 /// Whether all numbers may be lengths of lists.

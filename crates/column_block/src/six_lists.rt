@@ -4,7 +4,8 @@ ghost use Rattle.fold_law.specs.declared.measures.Parts.{Parts};
 ghost use Rattle.packed_lists.specs.Decoded.{ArePlaced};
 ghost use Rattle.column_block.specs.HeldParts.{AreListsFound, BeginsLists, number_at};
 ghost use Rattle.packed_lists.specs.Nums.{AreNums};
-ghost use Rattle.column_block.specs.Rules.{AreParts, Each};
+ghost use Rattle.row_cells.specs.Each.{Each};
+ghost use Rattle.column_block.specs.Rules.{AreParts};
 ghost use Rattle.column_block.specs.Spelling.{high, low, six_lists};
 
 use crate::halves::{Halves, halves_of, join_halves};
@@ -13,6 +14,7 @@ use crate::lists::put_lists;
 use edge_face::NoMemory;
 use fold_law::Parts;
 use packed_lists::{BLOCK, Found, find_numbers, leave, read_block_of};
+use row_cells::MOST_DOCUMENTS;
 use sqlite_items::Items;
 use std::alloc::Global;
 
@@ -261,10 +263,10 @@ pub fn put_parts_range(
     Ok(())
 }
 
-/// The greatest sum of the values of a document's worth of rows, by size.
-const MOST_SUM: u128 = 16_777_216 * (1 << 63);
+/// The greatest sum of the values of all documents of an index, by size.
+const MOST_SUM: u128 = MOST_DOCUMENTS as u128 * (1 << 63);
 /// The greatest number of them.
-const MOST_COUNT: i128 = 16_777_216 * ((1 << 63) - 1);
+const MOST_COUNT: i128 = MOST_DOCUMENTS as i128 * ((1 << 63) - 1);
 
 /// Whether a column may hold parts.
 fn is_kept(parts: &Parts) -> bool

@@ -3,18 +3,19 @@ ghost use Rattle.std.specs.Prelude.{◌≡◌, ℕ, ◌<◌, ◌≤◌, ◌++◌
 ghost use Rattle.std.specs.Cmp.Lexicographic.{slice_cmp};
 ghost use Rattle.std.specs.List.Sorted.{IsStrictlySortedBy};
 ghost use Rattle.std.specs.Ordering.{nat_cmp};
-ghost use Rattle.column_block.specs.Rules.{Each, IsText, TextsAscend};
-ghost use Rattle.column_block.specs.Spelling.{IsIn, joined, ordinal, table_bytes, text_bytes};
+ghost use Rattle.row_cells.specs.Each.{Each};
+ghost use Rattle.row_cells.specs.Limits.{longest_word};
+ghost use Rattle.column_block.specs.Rules.{IsText, TextsAscend};
+ghost use Rattle.row_cells.specs.Dimensions.{text_bytes};
+ghost use Rattle.column_block.specs.Spelling.{IsIn, joined, ordinal, table_bytes};
 ghost use Rattle.column_block.specs.Worded.{AreTexts, HaveSame};
 
 use crate::kinds::{ColumnError, Texts};
 use edge_face::{NoMemory, Text};
+use row_cells::{LONGEST_WORD, read_text};
 use std::alloc::Global;
 use std::cmp::Ordering;
 use std::collections::BTreeSet;
-
-/// The most bytes that a text may have.
-const TEXT_LIMIT: usize = 32_766;
 
 /// A table that bytes begin with, and how many bytes it takes.
 #[derive(Debug, Drop)]
@@ -107,7 +108,7 @@ pub fn ordinal_of(texts: &[Text], text: &Text) -> usize
 
 /// Appends two bytes of length, and a text.
 fn put_text(text: &[u8], into: &mut Vec<u8>) -> Result<(), NoMemory>
-    requires { length text.now ≤ 32766 }
+    requires { length text.now ≤ longest_word }
     ensures { OnOk result (into.new.items ≡ into.old.items ++ text_bytes text.now) }
 {
     into.extend_from_slice(&(text.len() as u16).to_be_bytes())?;
@@ -128,19 +129,20 @@ pub fn spell_table(alloc: Global, texts: &[Text]) -> Result<Vec<u8>, NoMemory>
     Ok(bytes)
 }
 
-/// The text that bytes begin with, behind two bytes of its length.
-fn read_text(bytes: &[u8]) -> Option<Piece<'_>>
+/// The text of UTF-8 that bytes begin with, behind two bytes of its length.
+fn read_piece(bytes: &[u8]) -> Option<Piece<'_>>
     ensures some { IfSome result (λ piece. (bytes.now ≡ text_bytes piece.text.now ++ piece.rest.now) × IsText piece.text.now) }
     ensures none { IsNone result → (text rest : List ℕ) → IsText text → bytes.now ≡ text_bytes text ++ rest → ⊥ }
 {
-    let (head, rest) = bytes.split_first_chunk::<2>()?;
-    let count = u16::from_be_bytes(*head) as usize;
-    if TEXT_LIMIT < count || rest.len() < count {
+    let found = read_text(bytes)?;
+    if found.text.len() > LONGEST_WORD {
         return None;
     }
-    let (text, rest) = rest.split_at(count);
-    match str::from_utf8(text) {
-        Ok(text) => Some(Piece { text, rest }),
+    match str::from_utf8(found.text) {
+        Ok(text) => Some(Piece {
+            text,
+            rest: found.rest,
+        }),
         Err(_) => None,
     }
 }
@@ -173,7 +175,7 @@ pub fn read_table(alloc: Global, bytes: &[u8]) -> Result<ReadTable, ColumnError>
     let mut texts = Vec::new(alloc);
     let mut rest = tail;
     for _ in 0..u64::from_be_bytes(*head) {
-        let Some(piece) = read_text(rest) else {
+        let Some(piece) = read_piece(rest) else {
             return Err(ColumnError::BadColumn);
         };
         if !is_behind(texts.as_slice(), piece.text) {

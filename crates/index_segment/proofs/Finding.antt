@@ -1,5 +1,5 @@
 -- The place of the row of a series and a time.
-use Rattle.std.specs.Prelude.{◌≡◌, ℕ, ℤ, pos, zero, suc, ◌≤ℤ◌, ◌<ℤ◌, ◌+◌, ◌-◌, ◌*◌, ◌^◌, ◌<◌, ◌≤◌, ◌&&◌, max, nat_lt, not, Bool, true, false, cond, Option, Some, None, List, [], ◌∷◌, length, position, slice_index_or}
+use Rattle.std.specs.Prelude.{◌≡◌, ℕ, ℤ, pos, zero, suc, ◌≤ℤ◌, ◌<ℤ◌, ◌+◌, ◌-◌, ◌*◌, ◌<◌, ◌≤◌, ◌&&◌, max, nat_lt, not, Bool, true, false, cond, Option, Some, None, List, [], ◌∷◌, length, position, slice_index_or}
 use Rattle.std.specs.Int.{div_ceil}
 use Rattle.std.specs.List.{slice_get, position_or_len}
 use Rattle.std.specs.Ordering.{int_eq}

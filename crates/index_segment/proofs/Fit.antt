@@ -2,6 +2,7 @@
 use Rattle.std.specs.Prelude.{◌≡◌, ℕ, zero, suc, ◌≤◌, Bool, List, [], ◌∷◌, drop, length}
 use Rattle.std.proofs.Common.{refl, arith}
 use Rattle.std.specs.List.{slice_get}
+use Rattle.row_cells.specs.Limits.{most_documents}
 use Rattle.row_cells.specs.Each.{Each}
 use Rattle.row_cells.specs.RowLists.{documents}
 use Rattle.row_cells.specs.declared.schemas.Field.{Field}
@@ -34,7 +35,7 @@ FitFrom folded rises fs place row = CellsFit folded rises row.count fs (drop pla
 pub record FitHere (folded rises : Bool) (f : Field) (place : ℕ) (row : Row) : Type 0 where
   pub fits : CellFits folded rises f.kind f.role row.count (cell_at place row)
   pub short : IsShortList (cell_at place row)
-  pub few : row.count ≤ 16777216
+  pub few : row.count ≤ most_documents
 
 short_at : (cells : List Cell) (place : ℕ) → Each IsShortList cells → IsShortList (cell_or_absent (slice_get cells place))
 short_at [] place short = tt

@@ -21,11 +21,11 @@ use Rattle.index_segment.specs.Columns.{columns_of}
 use Rattle.index_segment.specs.Directory.{Run, run_of, with_key, runs_of, row_keys, keys_of, sizes_of, spread}
 use Rattle.index_segment.specs.declared.forms.Form.{Form}
 use Rattle.index_segment.specs.Forms.{form_of, forms_of}
-use Rattle.index_segment.specs.Heads.{entry_at, head_of, rest_of, heads_in}
+use Rattle.row_cells.specs.Heads.{entry_at, head_of, rest_of, heads_in}
 use Rattle.index_segment.specs.Held.{plain, row_from, rows_from, rows_held}
 use Rattle.row_cells.specs.KeyedRows.{AreRowsOf, IsRowOf}
 use Rattle.index_segment.specs.Spelling.{counted, counts_of, times_of}
-use Rattle.index_segment.proofs.Entries.{entry_none, entry_read}
+use Rattle.row_cells.specs.HeadLaws.{entry_none, entry_read}
 use Rattle.index_segment.proofs.Kept.{kept}
 use Rattle.index_segment.proofs.Runs.{bytes_eq_same}
 use Rattle.index_segment.proofs.Restored.{AllKept, behind, cells_back}

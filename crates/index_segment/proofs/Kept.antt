@@ -12,7 +12,7 @@ use Rattle.row_cells.specs.declared.rows.Cell.TheVariants.{Absent, One, Many, Ga
 use Rattle.row_cells.specs.Fitting.{CellFits, FoldedGaugeFits, RawGaugeFits, PlainCounterFits, RisenCounterFits, LabelFits, IsValueOf, AreValuesAfter}
 use Rattle.row_cells.specs.Merging.{cell_of_parts, cell_of_rise}
 use Rattle.row_cells.specs.Each.{Each}
-use Rattle.column_block.proofs.Halved.{joined}
+use Rattle.column_block.specs.HalfLaws.{joined}
 use Rattle.index_segment.specs.Forms.{form_of, gauge_form, label_form}
 use Rattle.index_segment.specs.Cells.{whole_in, parts_in, first_in, last_in, high_in, low_in, number_in, numbers_in, text_in, texts_in, flag_in, cell_of_whole, rise_from, cell_of_numbers, cell_of_flags, cell_of_texts}
 use Rattle.index_segment.proofs.Restored.{KeptIn}

@@ -2,6 +2,7 @@
 use Rattle.std.specs.Prelude.{◌≡◌, ℕ, ℤ, pos, ◌+◌, ◌≤◌, List, [], ◌∷◌, ◌++◌, length, map}
 use Rattle.std.proofs.Common.{refl, ap, sym, subst, ◌∙◌, arith}
 use Rattle.std.proofs.lemmas.List.{length-map}
+use Rattle.row_cells.specs.Limits.{most_documents}
 use Rattle.row_cells.specs.declared.schemas.Schema.{Schema}
 use Rattle.row_cells.specs.declared.rows.Row.{Row}
 use Rattle.row_cells.specs.Mapped.{IsMapped}
@@ -70,9 +71,9 @@ pub record IsMended (schema : Schema) (a b : List Row) : Type 0 where
   pub columns_are : picked_columns (origins a b) (columns_of schema a) (columns_of schema b) ≡ columns_of schema (both a b)
   pub firsts_are : firsts (rows_of_joints (series a b)) ≡ length (times_of a)
   pub seconds_are : seconds (rows_of_joints (series a b)) ≡ length (times_of b)
-  pub rows_within : firsts (rows_of_joints (series a b)) + seconds (rows_of_joints (series a b)) ≤ 16777216
+  pub rows_within : firsts (rows_of_joints (series a b)) + seconds (rows_of_joints (series a b)) ≤ most_documents
 
-module _ (schema : Schema) (a b : List Row) (are : AreRowsOf schema a) (are_too : AreRowsOf schema b) (apart : AreApart a b) (few : documents a + documents b ≤ 16777216) where
+module _ (schema : Schema) (a b : List Row) (are : AreRowsOf schema a) (are_too : AreRowsOf schema b) (apart : AreApart a b) (few : documents a + documents b ≤ most_documents) where
   joint : Jointly (series a b) a b
   joint = jointly (runs_of (row_keys a)) (runs_of (row_keys b)) a b (grouped a are.in_order) (grouped b are_too.in_order)
 
@@ -136,10 +137,10 @@ pub record AreMended (s : Schema) (a b : List Row) (ks ls : List (List ℕ)) (ns
   pub packable_second : ArePackable columns_too
   pub columns_long : length columns_too ≡ length columns
 
-pub are_mended : (s t : Schema) (a b rows rows_too : List Row) (ks ls : List (List ℕ)) (starts starts_too : List ℕ) (ns ms times times_too counts counts_too : List ℤ) (columns columns_too : List Values) → Packs s a ks starts ns times counts columns → Packs t b ls starts_too ms times_too counts_too columns_too → t ≡ s → a ≡ rows → b ≡ rows_too → AreApart rows rows_too → documents rows + documents rows_too ≤ 16777216 → AreMended s a b ks ls ns ms times times_too counts counts_too columns columns_too
+pub are_mended : (s t : Schema) (a b rows rows_too : List Row) (ks ls : List (List ℕ)) (starts starts_too : List ℕ) (ns ms times times_too counts counts_too : List ℤ) (columns columns_too : List Values) → Packs s a ks starts ns times counts columns → Packs t b ls starts_too ms times_too counts_too columns_too → t ≡ s → a ≡ rows → b ≡ rows_too → AreApart rows rows_too → documents rows + documents rows_too ≤ most_documents → AreMended s a b ks ls ns ms times times_too counts counts_too columns columns_too
 are_mended s t a b rows rows_too ks ls starts starts_too ns ms times times_too counts counts_too columns columns_too first second same a_is b_is apart few =
     let apart_here : AreApart a b = subst (λ xs. AreApart xs b) (sym a_is) (subst (AreApart rows) (sym b_is) apart) in
-    let few_here : documents a + documents b ≤ 16777216 = subst (λ xs. documents xs + documents b ≤ 16777216) (sym a_is) (subst (λ ys. documents rows + documents ys ≤ 16777216) (sym b_is) few) in
+    let few_here : documents a + documents b ≤ most_documents = subst (λ xs. documents xs + documents b ≤ most_documents) (sym a_is) (subst (λ ys. documents rows + documents ys ≤ most_documents) (sym b_is) few) in
     let second_are : AreRowsOf s b = subst (λ schema. AreRowsOf schema b) same second.rows_are in
     let columns_second : columns_too ≡ columns_of s b = second.columns_are ∙ ap (λ schema. columns_of schema b) same in
     let listed_first : listed ks ns ≡ runs_of (row_keys a) = ap (λ keys. listed keys ns) first.keys_are ∙ (ap (listed (keys_of a)) first.sizes_are ∙ listed_rows a) in
@@ -165,7 +166,7 @@ abbrev seen : Schema → List Row → Held
 seen schema rows = record { schema = schema; rows = rows }
 
 -- the same of two segments that are seen as their schemas and rows
-pub mends : (h g : Held) (s t : Schema) (a b : List Row) (ks ls : List (List ℕ)) (starts starts_too : List ℕ) (ns ms times times_too counts counts_too : List ℤ) (columns columns_too : List Values) → seen s a ≡ h → seen t b ≡ g → Packs s a ks starts ns times counts columns → Packs t b ls starts_too ms times_too counts_too columns_too → g.schema ≡ h.schema → AreApart h.rows g.rows → documents h.rows + documents g.rows ≤ 16777216 → AreMended s a b ks ls ns ms times times_too counts counts_too columns columns_too
+pub mends : (h g : Held) (s t : Schema) (a b : List Row) (ks ls : List (List ℕ)) (starts starts_too : List ℕ) (ns ms times times_too counts counts_too : List ℤ) (columns columns_too : List Values) → seen s a ≡ h → seen t b ≡ g → Packs s a ks starts ns times counts columns → Packs t b ls starts_too ms times_too counts_too columns_too → g.schema ≡ h.schema → AreApart h.rows g.rows → documents h.rows + documents g.rows ≤ most_documents → AreMended s a b ks ls ns ms times times_too counts counts_too columns columns_too
 mends h g s t a b ks ls starts starts_too ns ms times times_too counts counts_too columns columns_too first_is second_is first second same apart few =
     are_mended s t a b h.rows g.rows ks ls starts starts_too ns ms times times_too counts counts_too columns columns_too first second
     (ap (λ (held : Held). held.schema) second_is ∙ (same ∙ sym (ap (λ (held : Held). held.schema) first_is)))
@@ -220,8 +221,8 @@ module _ (s : Schema) (a b : List Row) (ks ls : List (List ℕ)) (ns ms times ti
       let long : length second ≡ length (times_of b) = ap length (second_is ∙ m.times_are_too) in
       omega (arith, one, long, m.mended.seconds_are)
 
-  pub few_made : (rows : List Counts) → rows ≡ rows_of_joints (series a b) → firsts rows + seconds rows ≤ 16777216
-  few_made rows rows_are = subst (λ cs. firsts cs + seconds cs ≤ 16777216) (sym rows_are) m.mended.rows_within
+  pub few_made : (rows : List Counts) → rows ≡ rows_of_joints (series a b) → firsts rows + seconds rows ≤ most_documents
+  few_made rows rows_are = subst (λ cs. firsts cs + seconds cs ≤ most_documents) (sym rows_are) m.mended.rows_within
 
   pub sizes_made : (rows : List Counts) → rows ≡ rows_of_joints (series a b) → joint_sizes rows ≡ sizes_of (both a b)
   sizes_made rows rows_are = ap joint_sizes rows_are ∙ m.mended.sizes_are

@@ -14,7 +14,7 @@ use Rattle.column_block.specs.Ranges.{rows_between}
 use Rattle.index_segment.specs.declared.forms.Form.{Form}
 use Rattle.index_segment.specs.Columns.{columns_of}
 use Rattle.index_segment.specs.Forms.{form_of, forms_of}
-use Rattle.index_segment.specs.Heads.{entry_at, heads_in, rest_of}
+use Rattle.row_cells.specs.Heads.{entry_at, heads_in, rest_of}
 use Rattle.index_segment.specs.Held.{Packs, series_rows}
 use Rattle.index_segment.specs.Looks.{IsRange, rows_within}
 use Rattle.packed_lists.specs.Falling.{Fall}

@@ -4,6 +4,7 @@ use Rattle.std.specs.List.{slice_get}
 use Rattle.std.proofs.Common.{refl, ap, sym, subst, ◌∙◌, arith, get_or, length-append}
 use Rattle.std.proofs.lemmas.List.{length-map}
 use lib.ListN.{length-replicate}
+use Rattle.row_cells.specs.Limits.{most_documents}
 use Rattle.row_cells.specs.declared.schemas.Schema.{Schema}
 use Rattle.row_cells.specs.declared.rows.Cell.{Cell}
 use Rattle.row_cells.specs.declared.rows.Row.{Row}
@@ -14,7 +15,7 @@ use Rattle.index_segment.specs.declared.forms.Form.{Form}
 use Rattle.index_segment.specs.Columns.{columns_of}
 use Rattle.index_segment.specs.Directory.{keys_of, row_keys, sizes_of, spread, total}
 use Rattle.index_segment.specs.Forms.{forms_of}
-use Rattle.index_segment.specs.Heads.{heads_in}
+use Rattle.row_cells.specs.Heads.{heads_in}
 use Rattle.index_segment.specs.Held.{series_rows}
 use Rattle.index_segment.specs.Order.{Stands}
 use Rattle.index_segment.specs.Parts.{HaveParts}
@@ -26,7 +27,7 @@ use Rattle.index_segment.proofs.Places.{sizes_long}
 use Rattle.index_segment.proofs.Scanned.{keys_of_series, made_range, range_map}
 use Rattle.index_segment.proofs.Series.{keys_ascend, stands}
 
-total_next : (s : ℕ) (ns : List ℕ) → total (suc s) ns ≡ total s ns + get_or ns s 0
+pub total_next : (s : ℕ) (ns : List ℕ) → total (suc s) ns ≡ total s ns + get_or ns s 0
 total_next zero [] = refl
 total_next zero (n ∷ ns) = omega arith
 total_next (suc s) [] = refl
@@ -41,7 +42,7 @@ counted_at zero (n ∷ ns) = refl
 counted_at (suc s) [] = refl
 counted_at (suc s) (n ∷ ns) = counted_at s ns
 
-total_all : (ks : List (List ℕ)) (ns : List ℕ) → length ns ≡ length ks → total (length ks) ns ≡ length (spread ks ns)
+pub total_all : (ks : List (List ℕ)) (ns : List ℕ) → length ns ≡ length ks → total (length ks) ns ≡ length (spread ks ns)
 total_all [] ns long = refl
 total_all (k ∷ ks) [] long = absurd (omega (arith, long))
 total_all (k ∷ ks) (n ∷ ns) long = ap (λ m. n + m) (total_all ks ns (omega (arith, long))) ∙ sym (length-append (replicate n k) (spread ks ns) ∙ ap (λ m. m + length (spread ks ns)) (length-replicate n k))
@@ -64,7 +65,7 @@ take_all [] = refl
 take_all (x ∷ xs) = ap (λ ys. x ∷ ys) (take_all xs)
 
 module _ (schema : Schema) (rows : List Row) (keys : List (List ℕ)) (sizes times counts : List ℤ) (columns : List Values) (mapped : IsMapped schema) (are : AreRowsOf schema rows) (p : HaveParts schema rows keys sizes times counts columns) where
-  pub rows_within : length times ≤ 16777216
+  pub rows_within : length times ≤ most_documents
   rows_within = omega (arith, ap length p.times_are, length-map rows (λ row. row.time), rows_short schema rows are)
 
   pub sizes_within : length sizes ≡ length keys

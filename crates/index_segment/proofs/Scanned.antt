@@ -24,7 +24,7 @@ use Rattle.index_segment.specs.Cells.{whole_in, parts_in, first_in, last_in, hig
 use Rattle.index_segment.specs.Columns.{cell_at, columns_from, columns_of, columns_of_cells}
 use Rattle.index_segment.specs.Directory.{row_keys}
 use Rattle.index_segment.specs.Forms.{forms_of}
-use Rattle.index_segment.specs.Heads.{heads_in}
+use Rattle.row_cells.specs.Heads.{heads_in}
 use Rattle.index_segment.specs.Held.{row_from, series_rows}
 use Rattle.index_segment.specs.Looks.{is_within, rows_within}
 use Rattle.packed_lists.specs.Falling.{Fall}
@@ -280,6 +280,12 @@ got_taken (suc n) (suc k) (row ∷ rows) r there = let t = got_taken n k rows r 
 each_got : (P : Row → Type 0) (rows : List Row) → ((k : ℕ) (r : Row) → slice_get rows k ≡ Some r → P r) → Each P rows
 each_got P [] all = tt
 each_got P (row ∷ rows) all = (all 0 row refl, each_got P rows (λ k r there. all (suc k) r there))
+
+pub keys_in_series : (rows : List Row) (key : List ℕ) (a b i j : ℕ) → Stands (row_keys rows) key a b → a ≤ i → j ≤ b → Each (λ row. row.key ≡ key) (slice_range rows i j)
+keys_in_series rows key a b i j s start end = each_got (λ row. row.key ≡ key) (slice_range rows i j) (λ k r there.
+    let t = got_taken (j - i) k (drop i rows) r there in
+    let at : slice_get rows (i + k) ≡ Some r = sym (got_dropped i k rows) ∙ t.0 in
+    sym (key_at rows (i + k) r at) ∙ s.inside (i + k) (omega (arith, start)) (omega (arith, t.1, end)))
 
 pub keys_of_series : (rows : List Row) (key : List ℕ) (a b : ℕ) → Stands (row_keys rows) key a b → Each (λ row. row.key ≡ key) (slice_range rows a b)
 keys_of_series rows key a b s = each_got (λ row. row.key ≡ key) (slice_range rows a b) (λ k r there.

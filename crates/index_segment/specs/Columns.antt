@@ -44,6 +44,14 @@ columns_from place (form ∷ forms) rows = columns_of_cells form (map (cell_at p
 unfoldable pub columns_of : Schema → List Row → List Values
 columns_of schema rows = columns_from 0 (forms_of schema) rows
 
+abbrev pub form_or_bare : Option Form → Form
+form_or_bare None = Bare
+form_or_bare (Some form) = form
+
+-- the columns of the field at a place
+abbrev pub columns_at : Schema → List Row → ℕ → List Values
+columns_at schema rows field = columns_of_cells (form_or_bare (slice_get (forms_of schema) field)) (map (cell_at field) rows)
+
 -- values that columns may have
 abbrev pub ArePackable : List Values → Type 0
 ArePackable [] = Unit {0}

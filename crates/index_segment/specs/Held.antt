@@ -9,7 +9,7 @@ use Rattle.column_block.specs.declared.kinds.Values.{Values}
 use Rattle.index_segment.specs.Columns.{cells_from, columns_of}
 use Rattle.index_segment.specs.Directory.{keys_of, sizes_of, spread, starts_from}
 use Rattle.index_segment.specs.Forms.{forms_of}
-use Rattle.index_segment.specs.Heads.{heads_in}
+use Rattle.row_cells.specs.Heads.{heads_in}
 use Rattle.row_cells.specs.KeyedRows.{AreRowsOf}
 use Rattle.index_segment.specs.Spelling.{counted, times_of, counts_of}
 

@@ -2,14 +2,11 @@ pub mod Cells
 pub mod Columns
 pub mod Directory
 pub mod Forms
-pub mod Heads
 pub mod Held
 pub mod Joining
 pub mod Looks
 pub mod Merging
 pub mod Order
 pub mod Parts
-pub mod Rows
 pub mod Spelling
-pub mod Texts
 pub mod Turns

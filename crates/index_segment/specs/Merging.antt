@@ -15,6 +15,11 @@ use Rattle.index_segment.specs.Directory.{Run, run_of}
 abbrev pub AreApart : List Row → List Row → Type 0
 AreApart first second = Each (λ a. Each (λ b. a.key ≡ b.key → a.time ≡ b.time → ⊥) second) first
 
+-- no two of the lists have a series and a time in common
+abbrev pub AreAllApart : List (List Row) → Type 0
+AreAllApart [] = Unit {0}
+AreAllApart (rows ∷ lists) = Each (AreApart rows) lists × AreAllApart lists
+
 -- ---- series
 
 -- a series, and how many rows each list has of it

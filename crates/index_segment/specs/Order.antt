@@ -1,15 +1,8 @@
--- Keys in byte order, and rows in row order, by their neighbours and by their places.
-use Rattle.std.specs.Prelude.{◌≡◌, ◌≢◌, ℕ, ℤ, pos, ◌<ℤ◌, ◌+◌, ◌-◌, ◌/◌, ◌<◌, ◌≤◌, List, [], ◌∷◌, length, slice_index_or}
+-- Keys in byte order, by their places.
+use Rattle.std.specs.Prelude.{◌≡◌, ◌≢◌, ℕ, ◌<◌, ◌≤◌, List, [], length, slice_index_or}
 use Rattle.std.specs.Ordering.{nat_cmp}
 use Rattle.std.specs.Cmp.Lexicographic.{slice_cmp}
 use Rattle.std.specs.declared.cmp.Ordering.TheVariants.{Less}
-use Rattle.row_cells.specs.declared.rows.Row.{Row}
-use Rattle.row_cells.specs.Order.{row_cmp}
-
--- the first of the rows stands behind a row, and each of the others behind the one before it
-abbrev pub AreBehind : Row → List Row → Type 0
-AreBehind before [] = Unit {0}
-AreBehind before (row ∷ rows) = (row_cmp before row ≡ Less) × AreBehind row rows
 
 -- each key stands before those behind it
 abbrev pub Ascend : List (List ℕ) → Type 0

@@ -1,6 +1,7 @@
 //! The columns of rows.
 ghost use Rattle.std.specs.Prelude.{◌≡◌, ◌^◌, ◌<◌, ◌≤◌, ◌++◌, [], ◌∷◌, map, IfOk, OnOk};
 ghost use Rattle.column_block.specs.Rules.{KeepsRules, rows_of};
+ghost use Rattle.row_cells.specs.Limits.{most_documents};
 ghost use Rattle.index_segment.specs.Columns as spec;
 ghost use Rattle.index_segment.specs.Columns.{ArePackable, cell_at, columns_from, columns_of_cells};
 ghost use Rattle.row_cells.specs.RowLists.{documents};
@@ -110,7 +111,7 @@ pub fn pack_times(alloc: Global, rows: &[Row]) -> Result<NumberList, NoMemory>
 
 /// How many documents each row counts.
 pub fn pack_counts(alloc: Global, rows: &[Row]) -> Result<NumberList, NoMemory>
-    requires { documents rows.now ≤ 16777216 }
+    requires { documents rows.now ≤ most_documents }
     ensures { IfOk result (λ counts. counts ≡ lists.counts_of rows.now) }
 {
     let mut counts = Vec::with_capacity(alloc, rows.len())?;

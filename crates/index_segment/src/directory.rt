@@ -1,5 +1,6 @@
 //! The series of rows: their keys, and where the rows of each begin.
 ghost use Rattle.std.specs.Prelude.{◌≡◌, ◌≤◌, length, IfOk};
+ghost use Rattle.row_cells.specs.Limits.{most_documents};
 ghost use Rattle.index_segment.specs.Directory.{keys_of, row_keys, same_in_front, sizes_of, starts_from};
 ghost use Rattle.index_segment.specs.Spelling.{counted};
 
@@ -36,7 +37,7 @@ fn count_of_series(key: &Key, rows: &[Row]) -> usize
 /// The directory of rows in row order.
 #[tactic(auto, unfolding(crate::specs::Directory::keys_of, crate::specs::Directory::sizes_of))]
 pub fn directory_of(alloc: Global, rows: &[Row]) -> Result<Directory, NoMemory>
-    requires { length rows.now ≤ 16777216 }
+    requires { length rows.now ≤ most_documents }
     ensures keys { IfOk result (λ directory. directory.keys ≡ keys_of rows.now) }
     ensures starts { IfOk result (λ directory. directory.starts ≡ starts_from 0 (sizes_of rows.now)) }
     ensures sizes { IfOk result (λ directory. directory.sizes ≡ counted (sizes_of rows.now)) }

@@ -2,12 +2,11 @@
 #![tactic(auto)]
 
 mod build;
-mod check;
 mod directory;
 mod forms;
 mod gather;
-mod heads;
 mod laws;
+mod lends;
 mod lookup;
 mod merge;
 mod parse;
@@ -19,10 +18,9 @@ mod restore;
 mod scan;
 mod segment;
 mod shares;
-mod texts;
 mod turns;
 mod write;
 
 pub use laws::bytes_tell_rows;
 pub use packed_lists::Steps;
-pub use segment::{Segment, SegmentError};
+pub use segment::{Range, Segment, SegmentError};

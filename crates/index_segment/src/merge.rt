@@ -1,5 +1,6 @@
-//! Two segments as one.
-ghost use Rattle.std.specs.Prelude.{◌≡◌, ◌+◌, ◌≤◌, ◌++◌, IfOk};
+//! Segments as one.
+ghost use Rattle.std.specs.Prelude.{◌≡◌, ◌+◌, ◌≤◌, ◌++◌, IfOk, map};
+ghost use Rattle.std.specs.List.{flat_map};
 
 use crate::directory::Directory;
 use crate::pick::{pick_columns, pick_numbers};
@@ -9,7 +10,7 @@ use crate::turns::turns_of;
 use column_block::Numbers;
 use edge_face::NoMemory;
 use packed_lists::NumberList;
-use row_cells::copy_schema;
+use row_cells::{Row, Schema, copy_schema};
 use std::alloc::Global;
 
 /// The numbers of a list.
@@ -21,15 +22,18 @@ fn numbers_of(alloc: Global, list: &NumberList) -> Result<Numbers, NoMemory>
 }
 
 impl Segment {
+    ghost use Rattle.row_cells.specs.Limits.{most_documents};
     ghost use Rattle.row_cells.specs.RowLists.{documents, in_row_order};
-    ghost use Rattle.index_segment.specs.Merging.{AreApart};
+    ghost use Rattle.row_cells.specs.Each.{Each};
+    ghost use Rattle.row_cells.specs.Mapped.{IsMapped};
+    ghost use Rattle.index_segment.specs.Merging.{AreAllApart, AreApart};
 
     /// One segment of the rows of two, which have one schema, and no series and time in common. Each series' key is
     /// copied once; values are moved from the columns of both to those of the one, and no row is made.
     pub fn merge(&self, alloc: Global, other: &Segment) -> Result<Segment, NoMemory>
         requires schema { other.now.schema ≡ self.now.schema }
         requires apart { AreApart self.now.rows other.now.rows }
-        requires few { documents self.now.rows + documents other.now.rows ≤ 16777216 }
+        requires few { documents self.now.rows + documents other.now.rows ≤ most_documents }
         ensures { IfOk result (λ merged. merged ≡ record { schema = self.now.schema; rows = in_row_order (self.now.rows ++ other.now.rows) }) }
     {
         let sizes = numbers_of(alloc, &self.sizes)?;
@@ -79,5 +83,24 @@ impl Segment {
             counts,
             columns,
         })
+    }
+    /// One segment of the rows of any number of them, which have one schema, and no series and time in common; of none
+    /// the segment of no rows. They are merged from the first on, so what a caller can choose is the order: where each is
+    /// at least twice as large as those before it together, no row is written more often than there are doublings.
+    pub fn merge_all(alloc: Global, schema: &Schema, parts: &[Segment]) -> Result<Segment, NoMemory>
+        requires mapped { IsMapped schema.now }
+        requires schema { Each (λ s. s.schema ≡ schema.now) parts.now }
+        requires apart { AreAllApart (map (λ s. s.rows) parts.now) }
+        requires few { documents (flat_map (λ s. s.rows) parts.now) ≤ most_documents }
+        ensures { IfOk result (λ merged. merged ≡ record { schema = schema.now; rows = in_row_order (flat_map (λ s. s.rows) parts.now) }) }
+    {
+        let none: Vec<Row> = Vec::new(alloc);
+        let mut merged = Segment::build(alloc, schema, none.as_slice())?;
+        let mut left = parts;
+        while let Some((part, rest)) = left.split_first() {
+            merged = merged.merge(alloc, part)?;
+            left = rest;
+        }
+        Ok(merged)
     }
 }

@@ -11,11 +11,10 @@ ghost use Rattle.column_block.specs.declared.kinds.Values.{Values};
 ghost use Rattle.index_segment.specs.Parts.{AreColumnsOf};
 ghost use Rattle.index_segment.specs.Spelling.{AreColumns, mark};
 
-use crate::texts::read_text;
 use column_block::{Column, ColumnError, ColumnKind, one_value};
 use edge_face::NoMemory;
 use packed_lists::NumberList;
-use row_cells::Key;
+use row_cells::{Key, read_text};
 use sqlite_items::Items;
 use std::alloc::Global;
 

@@ -6,12 +6,12 @@ ghost use Rattle.row_cells.specs.declared.rows.Row.{Row};
 ghost use Rattle.row_cells.specs.KeyedRows.{AreRowsOf};
 ghost use Rattle.index_segment.specs.Spelling.{IsSegmentOf};
 
-use crate::check::are_rows;
 use crate::forms::forms_of;
 use crate::parse::read_parts;
 use crate::remake::make_rows;
 use edge_face::NoMemory;
 use row_cells::{Row, Schema, bytes_order};
+use series_id::are_rows_of;
 use std::alloc::Global;
 
 /// Two texts have the same bytes.
@@ -35,7 +35,7 @@ pub fn rows_in(alloc: Global, schema: &Schema, bytes: &[u8]) -> Result<Option<Ve
     let Some(rows) = make_rows(alloc, schema, forms.as_slice(), &parsed)? else {
         return Ok(None);
     };
-    if !are_rows(alloc, schema, rows.as_slice())? {
+    if !are_rows_of(alloc, schema, rows.as_slice())? {
         return Ok(None);
     }
     Ok(Some(rows))

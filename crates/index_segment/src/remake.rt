@@ -2,22 +2,19 @@
 ghost use Rattle.std.specs.Prelude.{◌≡◌, ℕ, pos, List, suc, ◌++◌, ◌+◌, ◌<◌, ◌≤◌, Some, length, slice_range, IfOk, IfSome, IsSomeAnd};
 ghost use Rattle.row_cells.specs.Mapped.{IsMapped};
 ghost use Rattle.row_cells.specs.declared.rows.Row.{Row};
+ghost use Rattle.row_cells.specs.Limits.{most_documents};
 ghost use Rattle.index_segment.specs.Directory.{sizes_of, total};
 ghost use Rattle.index_segment.specs.Forms as spec;
 ghost use Rattle.index_segment.specs.Parts.{HaveParts};
 ghost use Rattle.row_cells.specs.KeyedRows.{AreRowsOf};
 
 use crate::forms::Form;
-use crate::heads::heads_of;
 use crate::parse::Parsed;
 use crate::scan::{Series, pull, push_rows};
 use edge_face::NoMemory;
-use row_cells::{Row, Schema};
+use row_cells::{MOST_DOCUMENTS, Row, Schema, heads_of};
 use sqlite_items::at;
 use std::alloc::Global;
-
-/// How many rows a segment may have.
-const MOST_ROWS: usize = 16_777_216;
 
 /// Where a series that begins at a row ends.
 fn end_of(start: usize, size: i64, rows: usize) -> Option<usize>
@@ -48,7 +45,7 @@ fn push_series(
     requires forms { forms.now ≡ spec.forms_of schema.now }
     requires there { series < length parsed.now.keys }
     requires start { start ≤ length parsed.now.times }
-    requires few { length parsed.now.times ≤ 16777216 }
+    requires few { length parsed.now.times ≤ most_documents }
     ensures next { IfOk result (λ found. IfSome found (λ next. next ≤ length parsed.now.times)) }
     ensures rows { IfOk result (λ found. (rows : List Row) → IsMapped schema.now → AreRowsOf schema.now rows →
         HaveParts schema.now rows parsed.now.keys parsed.now.sizes parsed.now.times parsed.now.counts parsed.now.columns →
@@ -99,7 +96,8 @@ pub fn make_rows(
         HaveParts schema.now rows parsed.now.keys parsed.now.sizes parsed.now.times parsed.now.counts parsed.now.columns →
         IsSomeAnd found (λ made. made.items ≡ rows)) }
 {
-    if parsed.times.len() > MOST_ROWS {
+    // Each row counts a document.
+    if parsed.times.len() as u64 > MOST_DOCUMENTS {
         return Ok(None);
     }
     let mut made = Vec::new(alloc);

@@ -1,5 +1,5 @@
 //! Sealed rows of a shard.
-ghost use Rattle.std.specs.Prelude.{◌≡◌, ℕ, ◌+◌, ◌-◌, ◌*◌, ◌^◌, ◌<◌, ◌≤◌, ◌++◌, List, length, position, [], IfOk, IfSome, IsNone, Err, slice_index};
+ghost use Rattle.std.specs.Prelude.{◌≡◌, ℕ, ◌+◌, ◌-◌, ◌*◌, ◌^◌, ◌<◌, ◌≤◌, ◌++◌, List, length, drop, position, [], slice_range, IfOk, IfSome, IsNone, Err, slice_index};
 ghost use Rattle.std.specs.Int.{div_ceil};
 ghost use Rattle.std.specs.Option.{option_copied};
 ghost use Rattle.row_cells.specs.Mapped.{IsMapped};
@@ -7,8 +7,7 @@ ghost use Rattle.row_cells.specs.Mapped.{IsMapped};
 use crate::build::{pack_columns, pack_counts, pack_times};
 use crate::directory::{Directory, directory_of};
 use crate::forms::{columns_before, forms_of};
-use crate::heads::heads_of;
-use crate::lookup::{place_behind, place_of};
+use crate::lookup::place_behind;
 use crate::read::{are_same, rows_in};
 use crate::scan::{Series, pull, rows_of_series};
 use crate::write::{put_columns, put_front};
@@ -16,7 +15,7 @@ use column_block::{Column, one_spelling};
 use edge_face::{Bytes, NoMemory};
 use fold_law::Gauge;
 use packed_lists::{NumberList, Steps};
-use row_cells::{Key, Row, Schema, copy_schema};
+use row_cells::{Key, Row, Schema, copy_schema, heads_of};
 use sqlite_items::{Items, at};
 use std::alloc::Global;
 use std::marker::Model;
@@ -25,13 +24,13 @@ use thiserror::Error;
 
 /// Places of rows, of which the last isn't one.
 #[derive(Clone, Copy, Debug)]
-struct Range {
-    first: usize,
-    last: usize,
+pub struct Range {
+    pub first: usize,
+    pub last: usize,
 }
 
 /// From where a series begins up to where the next one does.
-fn between_starts(starts: &[u32], series: usize) -> Range
+pub fn between_starts(starts: &[u32], series: usize) -> Range
     requires there { series + 1 < length starts.now }
     requires few { length starts.now < 2 ^ 33 }
     ensures first { result.first ≡ slice_index starts.now series }
@@ -86,8 +85,8 @@ impl Segment {
     ghost use Rattle.row_cells.specs.KeyedRows.{AreRowsOf};
     ghost use Rattle.index_segment.specs.Spelling.{IsSegmentOf, IsFront, AreColumns};
 
-    /// Packs rows of the schema in row order, no two of one series and time: at most 16,777,216 documents, and at most
-    /// 67,108,864 values in a label. The rows may be none. The only error is a want of memory.
+    /// Packs rows of the schema in row order, no two of one series and time: at most `MOST_DOCUMENTS` documents, and at most
+    /// `LONGEST_LIST` values in a label. The rows may be none. The only error is a want of memory.
     pub fn build(alloc: Global, schema: &Schema, rows: &[Row]) -> Result<Segment, NoMemory>
         requires mapped { IsMapped schema.now }
         requires rows { AreRowsOf schema.now rows.now }
@@ -176,25 +175,22 @@ impl Segment {
         }
     }
 
-    /// The rows of a series.
-    fn series(&self, key: &Key) -> Option<Range>
+    /// The rows of the series with a key.
+    fn rows_of_key(&self, key: &Key) -> Option<Range>
         ensures some { IfSome result (λ range. Stands (row_keys self.now.rows) key.now range.first range.last) }
         ensures none { IsNone result → NoneIs (row_keys self.now.rows) key.now }
     {
-        let series = place_of(self.keys.as_slice(), key)?;
-        Some(between_starts(self.starts.as_slice(), series))
+        let series = self.series(key)?;
+        Some(self.series_rows(series))
     }
 
-    /// The rows of a series from a time up to another, which isn't in it.
-    fn range(&self, key: &Key, from: i64, to: i64) -> Option<Range>
+    /// The rows of the series with a key from a time up to another, which isn't in it.
+    fn range_of_key(&self, key: &Key, from: i64, to: i64) -> Option<Range>
         ensures some { IfSome result (λ range. IsRange key.now from to self.now.rows range.first range.last) }
         ensures none { IsNone result → rows_within key.now from to self.now.rows ≡ [] }
     {
         let series = self.series(key)?;
-        let mut times = self.times.cursor();
-        let first = times.cut(series.first, series.last, to);
-        let last = times.cut(first, series.last, from);
-        Some(Range { first, last })
+        Some(self.range(series, from, to))
     }
 
     /// The rows of a series from a time up to another, which isn't in it, in row order, so the latest come first. Times
@@ -202,7 +198,7 @@ impl Segment {
     pub fn scan(&self, alloc: Global, key: &Key, from: i64, to: i64) -> Result<Vec<Row>, NoMemory>
         ensures { IfOk result (λ rows. rows.items ≡ rows_within key.now from to self.now.rows) }
     {
-        let Some(range) = self.range(key, from, to) else {
+        let Some(range) = self.range_of_key(key, from, to) else {
             return Ok(Vec::new(alloc));
         };
         let forms = forms_of(alloc, &self.schema)?;
@@ -226,6 +222,22 @@ impl Segment {
         Ok(rows)
     }
 
+    /// The gauge of the rows from a place up to another. `field` is the place of a gauge among the schema's fields, from 0
+    /// on. The gauge of no values where there are none. The packed blocks are folded; no row is made, and no memory is
+    /// taken.
+    pub fn gauge_between(&self, field: u32, from: usize, to: usize) -> Gauge
+        requires gauge { IsGaugeAt self.now.schema.fields field }
+        requires order { from ≤ to }
+        requires within { to ≤ length self.now.rows }
+        ensures { result ≡ gauge_of field (slice_range self.now.rows from to) }
+    {
+        let place = columns_before(&self.schema, field as usize);
+        match at(self.columns.as_slice(), place) {
+            Some(column) => column.gauge(from as u32, to as u32),
+            None => Gauge(None),
+        }
+    }
+
     /// The gauge of a series' rows from a time up to another, which isn't in it, in milliseconds since 1970. `field` is
     /// the place of a gauge among the schema's fields, from 0 on. The gauge of no values where there are none. The
     /// packed blocks are folded; no row is made, and no memory is taken.
@@ -233,14 +245,10 @@ impl Segment {
         requires { IsGaugeAt self.now.schema.fields field }
         ensures { result ≡ gauge_of field (rows_within key.now from to self.now.rows) }
     {
-        let Some(range) = self.range(key, from, to) else {
+        let Some(range) = self.range_of_key(key, from, to) else {
             return Gauge(None);
         };
-        let place = columns_before(&self.schema, field as usize);
-        match at(self.columns.as_slice(), place) {
-            Some(column) => column.gauge(range.first as u32, range.last as u32),
-            None => Gauge(None),
-        }
+        self.gauge_between(field, range.first, range.last)
     }
 
     /// The place among the segment's rows, from 0 on, of the row of a series and a time in milliseconds since 1970, or
@@ -252,7 +260,7 @@ impl Segment {
             1 ≤ blocks → 2 ^ (steps.new - steps.old) ≤ 4 * blocks }
         ensures counted { steps.old ≤ steps.new }
     {
-        let series = self.series(key)?;
+        let series = self.rows_of_key(key)?;
         let mut times = self.times.cursor();
         let place = times.cut_at(series.first, series.last, time, steps);
         if place == series.first {
@@ -270,7 +278,8 @@ impl Segment {
     /// The columns, in the order of the fields. Joined, their bytes are what stands in the segment's bytes behind
     /// the counts of documents.
     pub fn columns(&self) -> &[Column]
-        ensures { (bytes : List ℕ) → IsSegmentOf self.now.schema self.now.rows bytes →
+        ensures behind { (bytes front : List ℕ) → IsSegmentOf self.now.schema self.now.rows bytes → IsFront self.now.rows front → AreColumns result.now (drop (length front) bytes) }
+        ensures split { (bytes : List ℕ) → IsSegmentOf self.now.schema self.now.rows bytes →
             (front back : List ℕ) × IsFront self.now.rows front × AreColumns result.now back × (bytes ≡ front ++ back) }
     {
         self.columns.as_slice()

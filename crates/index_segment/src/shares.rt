@@ -1,5 +1,6 @@
 //! The series of two segments, each once.
 ghost use Rattle.std.specs.Prelude.{◌≡◌, ◌+◌, ◌<◌, ◌≤◌, ◌++◌, [], ◌∷◌, unsigned_abs, pos, length, slice_index_or, IfOk, OnOk};
+ghost use Rattle.row_cells.specs.Limits.{most_documents};
 ghost use Rattle.index_segment.specs.Joining.{Goes, keys_of_joints, rows_of_joints, series_left};
 ghost use Rattle.index_segment.specs.Directory.{starts_from};
 ghost use Rattle.index_segment.specs.Merging.{counts_of, firsts, joined_series, joint_sizes, listed, seconds};
@@ -191,7 +192,7 @@ pub fn join_series(alloc: Global, first: Listed, second: Listed) -> Result<Joine
 
 /// Where the rows of each series begin, and how many they are, of both segments.
 pub fn directory_of_joined(alloc: Global, joined: Joined) -> Result<Directory, NoMemory>
-    requires few { firsts joined.rows + seconds joined.rows ≤ 16777216 }
+    requires few { firsts joined.rows + seconds joined.rows ≤ most_documents }
     ensures keys { IfOk result (λ directory. directory.keys ≡ joined.keys) }
     ensures starts { IfOk result (λ directory. directory.starts ≡ starts_from 0 (joint_sizes joined.rows)) }
     ensures sizes { IfOk result (λ directory. directory.sizes ≡ counted (joint_sizes joined.rows)) }

@@ -1,4 +1,4 @@
-use Rattle.column_block.proofs.Halved.{joined, low-again}
+use Rattle.column_block.specs.HalfLaws.{joined, low-again}
 use Rattle.column_block.proofs.halves.halves_join.Goals as goal
 
 pub returns-clause-joined : goal.returns-clause-joined

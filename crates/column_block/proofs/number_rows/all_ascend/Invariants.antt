@@ -1,5 +1,6 @@
 use Rattle.std.proofs.Common.{take}
-use Rattle.column_block.specs.Rules.{Ascend, Each}
+use Rattle.row_cells.specs.Each.{Each}
+use Rattle.column_block.specs.Rules.{Ascend}
 use Rattle.column_block.proofs.number_rows.all_ascend.Given as goal
 
 abbrev pub invariant-loop-list : goal.invariant-loop-list

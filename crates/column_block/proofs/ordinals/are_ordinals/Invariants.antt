@@ -1,5 +1,5 @@
 use Rattle.std.proofs.Common.{◌≡◌, pos, length, take}
-use Rattle.column_block.specs.Rules.{Each}
+use Rattle.row_cells.specs.Each.{Each}
 use Rattle.column_block.specs.Spelling.{joined}
 use Rattle.column_block.specs.Worded.{AreMarked, ClimbFrom}
 use Rattle.column_block.proofs.ordinals.are_ordinals.Given as goal

@@ -1,6 +1,7 @@
 use Rattle.std.proofs.Common.{◌∙◌, sym, subst}
 use Rattle.std.proofs.lemmas.List.{take_all}
-use Rattle.column_block.specs.Rules.{AreParts, Each}
+use Rattle.row_cells.specs.Each.{Each}
+use Rattle.column_block.specs.Rules.{AreParts}
 use Rattle.column_block.proofs.SixLists.{each-more, each-at}
 use Rattle.column_block.proofs.six_lists.are_all_kept.Goals as goal
 

@@ -1,5 +1,6 @@
 use Rattle.std.proofs.Common.{take}
-use Rattle.column_block.specs.Rules.{AreParts, Each}
+use Rattle.row_cells.specs.Each.{Each}
+use Rattle.column_block.specs.Rules.{AreParts}
 use Rattle.column_block.proofs.six_lists.are_all_kept.Given as goal
 
 abbrev pub invariant-loop-part : goal.invariant-loop-part

@@ -1,7 +1,8 @@
 use Rattle.std.proofs.Common.{◌*◌, List, take}
 use Rattle.fold_law.specs.declared.measures.Parts.{Parts}
 use Rattle.packed_lists.specs.Decoded.{ArePlaced}
-use Rattle.column_block.specs.Rules.{AreParts, Each}
+use Rattle.row_cells.specs.Each.{Each}
+use Rattle.column_block.specs.Rules.{AreParts}
 use Rattle.column_block.specs.Spelling.{six_lists}
 use Rattle.column_block.proofs.six_lists.are_kept.Given as goal
 

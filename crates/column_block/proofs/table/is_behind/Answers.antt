@@ -2,7 +2,7 @@ use Rattle.std.proofs.Common.{◌∙◌, ap, sym, arith, refl}
 use Rattle.std.specs.Cmp.Lexicographic.{slice_cmp}
 use Rattle.std.specs.Ordering.{nat_cmp}
 use Rattle.std.proofs.lemmas.Bool.{false≢true}
-use Rattle.column_block.specs.Rules.{IsBefore}
+use Rattle.row_cells.specs.Dimensions.{IsBefore}
 use Rattle.column_block.proofs.Tabling.{push-last}
 use Rattle.column_block.proofs.table.is_behind.Goals as goal
 

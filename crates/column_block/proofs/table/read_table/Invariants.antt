@@ -1,6 +1,6 @@
 use Rattle.std.proofs.Common.{◌≡◌, ◌++◌, length}
 use Rattle.std.specs.List.{flat_map}
-use Rattle.column_block.specs.Spelling.{text_bytes}
+use Rattle.row_cells.specs.Dimensions.{text_bytes}
 use Rattle.column_block.specs.Worded.{AreTexts}
 use Rattle.column_block.proofs.table.read_table.Given as goal
 

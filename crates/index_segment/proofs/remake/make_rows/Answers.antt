@@ -4,9 +4,9 @@ use Rattle.index_segment.specs.Directory.{sizes_of, total}
 use Rattle.index_segment.proofs.Remade.{all_made, key_there, ordered, take_on, rows_within}
 use Rattle.index_segment.proofs.remake.make_rows.Goals as goal
 
-pub returns-then-len-gt-MOST_ROWS : goal.returns-then-len-gt-MOST_ROWS
-returns-then-len-gt-MOST_ROWS c rows mapped are parts =
-    omega (arith, c.if-len-gt-MOST_ROWS.true, c.len.ensures, rows_within _ _ _ _ _ _ _ mapped are parts)
+pub returns-then-len-gt-MOST_DOCUMENTS : goal.returns-then-len-gt-MOST_DOCUMENTS
+returns-then-len-gt-MOST_DOCUMENTS c rows mapped are parts =
+    omega (arith, c.if-len-gt-MOST_DOCUMENTS.true, c.len.ensures, rows_within _ _ _ _ _ _ _ mapped are parts)
 
 pub loop-series-preserved : goal.loop-series-preserved
 loop-series-preserved c = record {

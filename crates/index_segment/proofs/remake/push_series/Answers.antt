@@ -3,7 +3,7 @@ use Rattle.std.specs.List.{slice_get}
 use Rattle.std.proofs.Math.Facts.{to_z-of_z}
 use Rattle.column_block.specs.Ranges.{rows_between}
 use Rattle.index_segment.specs.Directory.{sizes_of}
-use Rattle.index_segment.specs.Heads.{heads_in}
+use Rattle.row_cells.specs.Heads.{heads_in}
 use Rattle.index_segment.proofs.Places.{heads_same}
 use Rattle.index_segment.proofs.Lists.{none_is_some, some_is}
 use Rattle.index_segment.proofs.Remade.{end_within, ends, key_there, remade, size_at, sizes_within}

@@ -2,7 +2,7 @@ use Rattle.std.proofs.Common.{◌≡◌, ◌∙◌, ap, sym, subst, refl, length
 use Rattle.std.proofs.lemmas.List.{length-map}
 use Rattle.column_block.specs.Cutting.{IsShort, total}
 use Rattle.packed_lists.specs.Nums.{AreNums}
-use Rattle.column_block.specs.Rules.{Each}
+use Rattle.row_cells.specs.Each.{Each}
 use Rattle.column_block.specs.Spelling.{joined, lengths}
 use Rattle.column_block.proofs.Cuts.{lengths-sizes, total-lengths}
 use Rattle.packed_lists.specs.Laws.Founds.{found-one}

@@ -1,6 +1,7 @@
 use Rattle.std.proofs.Common.{◌∙◌, sym, subst, refl}
 use Rattle.std.proofs.lemmas.Bool.{false≢true}
-use Rattle.column_block.specs.Rules.{Ascend, Each}
+use Rattle.row_cells.specs.Each.{Each}
+use Rattle.column_block.specs.Rules.{Ascend}
 use Rattle.column_block.proofs.NumberRowed.{all-rows, rows-keep, rows-ascend, read-same}
 use Rattle.column_block.proofs.number_rows.NumberRows.read.Goals as goal
 

@@ -3,7 +3,8 @@ use Rattle.std.specs.Prelude.{slice_range}
 use Rattle.fold_law.specs.Laws.{fold_of, reach_of_items}
 use Rattle.fold_law.specs.Gauges.{no_gauge, merge_gauges, gauge_of_one, reach_of_gauge}
 use Rattle.column_block.specs.Presence.{present}
-use Rattle.column_block.specs.Rules.{Each, AreParts}
+use Rattle.row_cells.specs.Each.{Each}
+use Rattle.column_block.specs.Rules.{AreParts}
 use Rattle.column_block.proofs.Aheads.{count-order, count-whole}
 use Rattle.column_block.proofs.SixLists.{each-range}
 use Rattle.column_block.proofs.Folding.{range-there, range-size, parts-within}

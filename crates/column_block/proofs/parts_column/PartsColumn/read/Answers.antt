@@ -1,7 +1,8 @@
 use Rattle.std.proofs.Common.{◌∙◌, ap, sym, subst, arith, refl, List, length, take}
 use Rattle.column_block.specs.declared.kinds.Values.TheVariants.{Parts as PartsOf}
 use Rattle.column_block.specs.Presence.{present}
-use Rattle.column_block.specs.Rules.{AreParts, Each}
+use Rattle.row_cells.specs.Each.{Each}
+use Rattle.column_block.specs.Rules.{AreParts}
 use Rattle.column_block.specs.Spelling.{Spells}
 use Rattle.column_block.proofs.Presences.{no-ones}
 use Rattle.column_block.proofs.Aheads.{front-long}

@@ -1,6 +1,7 @@
 use Rattle.std.proofs.Common.{sym, subst}
 use Rattle.column_block.specs.Cutting.{IsShort}
-use Rattle.column_block.specs.Rules.{Each, IsText}
+use Rattle.row_cells.specs.Each.{Each}
+use Rattle.column_block.specs.Rules.{IsText}
 use Rattle.column_block.specs.Spelling.{IsIn}
 use Rattle.column_block.proofs.Wording.{words-are, built-words, table-texts, short-places}
 use Rattle.column_block.proofs.words.TextRows.build.Goals as goal

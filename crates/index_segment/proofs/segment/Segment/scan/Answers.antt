@@ -2,7 +2,7 @@ use Rattle.std.proofs.Common.{ap, arith, sym, subst, w64, to_z, of_z, ◌∙◌,
 use Rattle.std.proofs.Math.Facts.{to_z-of_z}
 use Rattle.column_block.specs.Ranges.{rows_between}
 use Rattle.index_segment.specs.Held.{Held, rows_held}
-use Rattle.index_segment.specs.Heads.{heads_in}
+use Rattle.row_cells.specs.Heads.{heads_in}
 use Rattle.index_segment.specs.Looks.{IsRange, rows_within}
 use Rattle.index_segment.proofs.Places.{counts_same, heads_same, last_short, scan_is}
 use Rattle.index_segment.proofs.segment.Segment.scan.Goals as goal

@@ -1,9 +1,0 @@
-use Rattle.std.proofs.Common.{◌≡◌, ◌+◌, ◌≤◌, drop}
-use Rattle.row_cells.specs.RowLists.{documents}
-use Rattle.index_segment.proofs.check.are_few.Given as goal
-
-abbrev pub invariant-loop-row : goal.invariant-loop-row
-invariant-loop-row l = record {
-  few : l.total ≤ 16777216;
-  rest : l.total + documents (drop l.row-index l.rows) ≡ documents l.rows;
-}

@@ -1,6 +1,0 @@
-use Rattle.std.proofs.Common.{◌≡◌, ◌++◌, drop}
-use Rattle.index_segment.specs.Heads.{heads_in}
-use Rattle.index_segment.proofs.heads.heads_of.Given as goal
-
-abbrev pub invariant-loop-field : goal.invariant-loop-field
-invariant-loop-field l = l.heads.items ++ heads_in (drop l.field-index l.fields) l.rest ≡ heads_in l.fields l.key
