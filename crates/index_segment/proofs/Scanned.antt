@@ -222,14 +222,6 @@ module _ (i j : ℕ) where
 
 -- ---- rows of a series
 
-keys_same : (key : List ℕ) (from to : ℤ) (rows : List Row) → Each (λ row. row.key ≡ key) (filter (is_within key from to) rows)
-keys_same key from to [] = tt
-keys_same key from to (row ∷ rows) = go (is_within key from to row) refl (keys_same key from to rows)
-  where
-    go : (v : Bool) → is_within key from to row ≡ v → Each (λ r. r.key ≡ key) (filter (is_within key from to) rows) → Each (λ r. r.key ≡ key) (cond {A = List Row} v (row ∷ filter (is_within key from to) rows) (filter (is_within key from to) rows))
-    go true is rest = (key_within key from to row is, rest)
-    go false is rest = rest
-
 series_back : (schema : Schema) (key : List ℕ) (all done rest : List Row) (k : ℕ) → IsMapped schema → Each (IsRowOf schema) rest → Each (λ row. row.key ≡ key) rest → all ≡ done ++ rest → length done ≡ k → series_rows key (forms_of schema) (heads_in schema.fields key) (columns_of schema all) k (times_of rest) (counts_of rest) ≡ rest
 series_back schema key all done [] k mapped each keys whole long = refl
 series_back schema key all done (row ∷ rest) k mapped each keys whole long =
@@ -250,10 +242,6 @@ made_range schema rows key i j mapped each keys =
     ∙ (ap (λ times. series_rows key (forms_of schema) (heads_in schema.fields key) (columns_of schema part) 0 times (slice_range (counts_of rows) i j)) (range_map (λ row. row.time) rows i j)
     ∙ (ap (λ counts. series_rows key (forms_of schema) (heads_in schema.fields key) (columns_of schema part) 0 (times_of part) counts) (range_map (λ row. pos row.count) rows i j)
     ∙ series_back schema key part [] part 0 mapped (each_range (IsRowOf schema) rows i j each) keys refl refl))
-
--- the rows of a range, from the columns of all rows
-pub scanned : (schema : Schema) (rows : List Row) (key : List ℕ) (from to : ℤ) (i j : ℕ) → IsMapped schema → Each (IsRowOf schema) rows → rows_within key from to rows ≡ slice_range rows i j → series_rows key (forms_of schema) (heads_in schema.fields key) (map (rows_between i j) (columns_of schema rows)) 0 (slice_range (times_of rows) i j) (slice_range (counts_of rows) i j) ≡ rows_within key from to rows
-scanned schema rows key from to i j mapped each is = made_range schema rows key i j mapped each (subst (Each (λ row. row.key ≡ key)) is (keys_same key from to rows)) ∙ sym is
 
 -- ---- the rows of a whole series
 

@@ -177,7 +177,7 @@ impl Segment {
     }
 
     /// Pushes the rows from a place up to another, which are of one series.
-    fn push_piece(
+    pub(crate) fn push_piece(
         &self,
         alloc: Global,
         series: usize,

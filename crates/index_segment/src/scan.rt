@@ -60,21 +60,3 @@ pub fn push_rows(
     }
     Ok(())
 }
-
-/// The rows of a series that have these times, counts of documents and columns.
-pub fn rows_of_series(
-    alloc: Global,
-    series: Series,
-    times: &[i64],
-    counts: &[i64],
-    columns: &[Values],
-) -> Result<Vec<Row>, NoMemory>
-    requires same { length series.heads.now ≡ length series.forms.now }
-    requires few { length series.forms.now < 2 ^ 60 }
-    requires counted { length counts.now ≡ length times.now }
-    ensures { IfOk result (λ rows. rows.items ≡ series_rows series.entry.key.now series.entry.forms.now series.entry.heads.now columns.now 0 times.now counts.now) }
-{
-    let mut rows = Vec::with_capacity(alloc, times.len())?;
-    push_rows(alloc, series, times, counts, columns, &mut rows)?;
-    Ok(rows)
-}

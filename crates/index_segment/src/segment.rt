@@ -9,13 +9,12 @@ use crate::directory::{Directory, directory_of};
 use crate::forms::{columns_before, forms_of};
 use crate::lookup::place_behind;
 use crate::read::{are_same, rows_in};
-use crate::scan::{Series, pull, rows_of_series};
 use crate::write::{put_columns, put_front};
 use column_block::{Column, one_spelling};
 use edge_face::{Bytes, NoMemory};
 use fold_law::Gauge;
 use packed_lists::{NumberList, Steps};
-use row_cells::{Key, Row, Schema, copy_schema, heads_of};
+use row_cells::{Key, Row, Schema, copy_schema};
 use sqlite_items::{Items, at};
 use std::alloc::Global;
 use std::marker::Model;
@@ -198,27 +197,12 @@ impl Segment {
     pub fn scan(&self, alloc: Global, key: &Key, from: i64, to: i64) -> Result<Vec<Row>, NoMemory>
         ensures { IfOk result (λ rows. rows.items ≡ rows_within key.now from to self.now.rows) }
     {
-        let Some(range) = self.range_of_key(key, from, to) else {
+        let Some(series) = self.series(key) else {
             return Ok(Vec::new(alloc));
         };
-        let forms = forms_of(alloc, &self.schema)?;
-        let heads = heads_of(alloc, self.schema.fields.as_slice(), key.bytes())?;
-        let times = self.times.values(alloc, range.first, range.last)?;
-        let counts = self.counts.values(alloc, range.first, range.last)?;
-        let (from, to) = (range.first as u32, range.last as u32);
-        let columns = pull(alloc, self.columns.as_slice(), from, to)?;
-        let series = Series {
-            key,
-            forms: forms.as_slice(),
-            heads: heads.as_slice(),
-        };
-        let rows = rows_of_series(
-            alloc,
-            series,
-            times.as_slice(),
-            counts.as_slice(),
-            columns.as_slice(),
-        )?;
+        let range = self.range(series, from, to);
+        let mut rows = Vec::with_capacity(alloc, range.last - range.first)?;
+        self.push_piece(alloc, series, range.first, range.last, &mut rows)?;
         Ok(rows)
     }
 
