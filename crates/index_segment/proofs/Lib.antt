@@ -14,6 +14,7 @@ mod Many
 mod Mended
 mod Merged
 mod Packable
+mod Parted
 mod Picked
 mod Places
 mod Ranged

@@ -7,7 +7,7 @@ each_drop P zero xs all = all
 each_drop P (suc n) [] all = tt
 each_drop P (suc n) (x ∷ xs) all = each_drop P n xs all.1
 
-each_take : {A : Type 0} (P : A → Type 0) (n : ℕ) (xs : List A) → Each P xs → Each P (take n xs)
+pub each_take : {A : Type 0} (P : A → Type 0) (n : ℕ) (xs : List A) → Each P xs → Each P (take n xs)
 each_take P zero xs all = tt
 each_take P (suc n) [] all = tt
 each_take P (suc n) (x ∷ xs) all = (all.0, each_take P n xs all.1)

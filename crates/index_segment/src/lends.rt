@@ -50,11 +50,15 @@ impl Segment {
     ghost use Rattle.index_segment.specs.Order.{NoneIs, Stands};
     ghost use Rattle.index_segment.specs.Spelling.{counts_of, times_of};
     ghost use Rattle.row_cells.specs.Heads.{heads_in};
+    ghost use Rattle.row_cells.specs.KeyedRows.{AreRowsOf};
+    ghost use Rattle.row_cells.specs.Mapped.{IsMapped};
     ghost use Rattle.row_cells.specs.RowLists.{documents};
 
-    /// The schema of the rows.
+    /// The schema of the rows. Whatever made the segment, the rows are those of an index of it.
     pub fn schema(&self) -> &Schema
-        ensures { result.now ≡ self.now.schema }
+        ensures is { result.now ≡ self.now.schema }
+        ensures mapped { IsMapped self.now.schema }
+        ensures rows { AreRowsOf self.now.schema self.now.rows }
     {
         &self.schema
     }

@@ -3,6 +3,7 @@
 
 mod build;
 mod directory;
+mod folds;
 mod forms;
 mod gather;
 mod laws;
