@@ -10,6 +10,8 @@ top=$PWD
 gate=${GATE_PASSED:-0}
 passed=0
 failed=0
+# Tables whose calls tsds_probe doesn't make yet.
+waiting="index_segment"
 work=$(mktemp -d) || exit 1
 trap 'rm -rf "$work"' EXIT
 mkdir "$work/cases"
@@ -71,14 +73,25 @@ run_tables() {
     done
 }
 
-# Unproved programs are compiled with checks and without optimisation, so the sweeps over all bytes of a segment are left out there.
-if is_proved tsds_probe; then
-    cp tests/cases/*.cases "$work/cases"
-else
-    for table in tests/cases/*.cases; do
-        grep -v '^{"call":"damaged_segment"' "$table" > "$work/cases/${table##*/}"
-    done
-    echo "left out, unproved: $(cat tests/cases/*.cases | grep -c '^{"call":"damaged_segment"') sweeps over the bytes of segments"
+# Unproved programs are compiled with checks and without optimisation. There the sweeps over all bytes of segments and the scripts
+# of 64 MiB are left out, which would take minutes.
+heavy='^{"call":"damaged_segment"|"times":104857[67],'
+for table in tests/cases/*.cases; do
+    name=${table##*/}
+    case " $waiting " in
+        *" ${name%.cases} "*)
+            echo "waits: $name, whose calls no proved program makes yet"
+            continue
+            ;;
+    esac
+    if is_proved tsds_probe; then
+        cp "$table" "$work/cases"
+    else
+        grep -Ev "$heavy" "$table" > "$work/cases/$name"
+    fi
+done
+if ! is_proved tsds_probe; then
+    echo "left out, unproved: $(cat tests/cases/*.cases | grep -cE "$heavy") cases: sweeps over the bytes of segments, and scripts of 64 MiB"
 fi
 # Random texts of instants, by Python's calendar.
 if command -v python3 > /dev/null; then
@@ -86,11 +99,7 @@ if command -v python3 > /dev/null; then
 else
     echo "left out: the calendar, which needs python3"
 fi
-if [ -d crates/tsds_probe ]; then
-    run_tables
-else
-    echo "left out: the tables of cases, whose program does not stand proved yet"
-fi
+run_tables
 
 # The example and its replies are what the stored run of the program checks.
 cmp examples/first.tsds crates/tsds/stdin && cmp examples/first.replies crates/tsds/stdout

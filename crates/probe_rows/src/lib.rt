@@ -1,0 +1,20 @@
+//! Calls on templates, documents and rows, made by cases.
+#![tactic(auto)]
+
+mod calls;
+mod cells;
+mod documents;
+mod fields;
+mod folds;
+mod keys;
+mod lifecycles;
+mod merging;
+mod rises;
+mod rows;
+mod shown;
+mod templates;
+mod widening;
+
+pub use calls::answer_rows;
+pub use keys::key_at;
+pub use rows::{case_rows, rows_at, schema_at};

@@ -1,0 +1,17 @@
+//! Which crate makes the call of a case.
+use probe_case::Trial;
+use probe_columns::answer_columns;
+use probe_devices::answer_devices;
+use probe_rows::answer_rows;
+use probe_words::answer_words;
+use serde_json::Value;
+
+/// Makes the call that a case names, and writes its answer.
+pub fn answer(case: &Value, trial: &mut Trial) {
+    let call = trial.word_at(case, "call");
+    let is_made = answer_words(call, case, trial)
+        || answer_rows(call, case, trial)
+        || answer_columns(call, case, trial)
+        || answer_devices(call, case, trial);
+    trial.need(is_made);
+}
