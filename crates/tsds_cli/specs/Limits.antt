@@ -1,9 +1,9 @@
 -- The lengths that a script may have.
-use Rattle.std.specs.Prelude.{ℕ, ◌+◌, List, [], ◌∷◌, ◌++◌, length, Bool, false, ◌||◌, nat_lt, if◌then◌else◌}
+use Rattle.std.specs.Prelude.{ℕ, ◌+◌, ◌≤◌, List, [], ◌∷◌, ◌++◌, length, Bool, false, ◌||◌, nat_lt, if◌then◌else◌}
 use Rattle.std.specs.Io.BufRead.{strip_last, ends_with_byte}
 use Rattle.edge_face.specs.Limits.{line_limit, input_limit, body_limit}
 use Rattle.edge_face.specs.Lines.{pieces_of, line_of}
-use Rattle.tsds_cli.specs.Script.{Event}
+use Rattle.tsds_cli.specs.Script.{Event, Moment, Request}
 use Rattle.tsds_cli.specs.Script.{Place, between, within, closes, next_place, at_end}
 
 -- a line with more bytes than it may have, before its newline or the end
@@ -47,3 +47,8 @@ passed_from place before (piece ∷ pieces) = is_over_so_far place before piece 
 -- bytes that may go on have passed a length
 abbrev pub has_passed : List ℕ → Bool
 has_passed bytes = passed_from between 0 (pieces_of bytes)
+
+-- an event whose body is no longer than a body may be
+abbrev pub IsShort : Event → Type 0
+IsShort (Moment text) = Unit {0}
+IsShort (Request line body) = length body ≤ body_limit

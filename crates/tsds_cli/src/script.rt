@@ -5,6 +5,7 @@ ghost use Rattle.edge_face.specs.Waiting.{KnowsEnd};
 ghost use Rattle.edge_face.specs.Limits.{body_limit, input_limit};
 ghost use Rattle.tsds_cli.specs.Script.{Request, is_skipped as skips, is_empty, is_moment, between, within, closes, next_place};
 ghost use Rattle.tsds_cli.specs.Ahead.{Passed, IsAtEnd, Stopped, opened, opens, event_in};
+ghost use Rattle.tsds_cli.specs.Limits.{IsShort};
 
 use crate::errors::RunError;
 use edge_face::{BODY_LIMIT, LineReader, NoMemory, Source};
@@ -151,6 +152,7 @@ fn read_body<S: Source>(
     ensures event { OnOk result (Passed (within heard.old.line.items []) (Request heard.old.line.items heard.new.body.items ∷ []) between
         reader.old reader.new (S.left source.old) (S.left source.new)) }
     ensures kept { (heard.new.opening ≡ heard.old.opening) × (heard.new.line.items ≡ heard.old.line.items) }
+    ensures held { OnOk result (length heard.new.body.items ≤ body_limit) }
     ensures stopped { IfErr result (λ e. Stopped (within heard.old.line.items []) e reader.old reader.new (S.left source.old) (S.left source.new)) }
     ensures fine { OnOk result (reader.new.refused ≡ None) }
     ensures knows { KnowsEnd reader.new.ended (S.left source.new) }
@@ -183,6 +185,7 @@ pub fn next_event<S: Source>(
     requires fine { reader.old.refused ≡ None }
     requires knows { KnowsEnd reader.old.ended (S.left source.old) }
     ensures event { result ≡ Ok true → Passed between (event_in heard.new ∷ []) between reader.old reader.new (S.left source.old) (S.left source.new) }
+    ensures held { result ≡ Ok true → IsShort (event_in heard.new) }
     ensures none { result ≡ Ok false → IsAtEnd between between reader.old reader.new (S.left source.old) (S.left source.new) }
     ensures stopped { IfErr result (λ e. Stopped between e reader.old reader.new (S.left source.old) (S.left source.new)) }
     ensures fine { OnOk result (reader.new.refused ≡ None) }
