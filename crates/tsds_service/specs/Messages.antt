@@ -1,6 +1,7 @@
 -- What a machine does with a message: its step, or the reply to a refused reading, and then a unit.
 use Rattle.std.specs.Prelude.{ℕ, ℤ, Bool, false, List, Result, Ok, Err}
-use Rattle.rest_request.specs.Message.{Message, request_of}
+use Rattle.rest_request.specs.Message.{Message}
+use Rattle.rest_request.specs.Table.{request_of}
 use Rattle.rest_request.specs.declared.request.RequestError.{RequestError}
 use Rattle.stream_catalog.specs.Ways.{Way}
 use Rattle.tsds_service.specs.Causes.{refused, request_cause}
