@@ -45,6 +45,6 @@ shown_rows c n i seen found =
     let same : shown_by i.facts.interval schema i.rows ≡ i.rows = ap (λ (j : PlainIndex). j.rows) (seen_itself c n i seen.again found) in
     record {
       each = subst (Each (IsRowOf schema)) same (shown_fit i.facts.interval i.facts.blocked schema i.facts.start i.facts.end i.rows held.kind held.mapping.schema.mapped sound.rows sound.few);
-      order = subst AreInRowOrder same (shown_in_order i.facts.interval schema i.rows (cells_of i sound) sound.distinct);
+      in_order = subst AreInRowOrder same (shown_in_order i.facts.interval schema i.rows (cells_of i sound) sound.distinct);
       few = sound.few;
     }

@@ -12,6 +12,7 @@ use Rattle.time_text.specs.declared.units.Unit.TheVariants.{S}
 use Rattle.time_text.specs.Bucket.{bucket_start}
 use Rattle.time_text.specs.Printed.{day_text}
 use Rattle.index_names.specs.Backing.{backing_name, downsample_name}
+use Rattle.index_names.specs.Patterns.{pattern_takes}
 use Rattle.downsample_fold.specs.Direct.{down}
 use Rattle.lifecycle_swap.specs.declared.lifecycles.Lifecycle.{Lifecycle}
 use Rattle.ts_mapping.specs.declared.templates.Mapping.{Mapping}
@@ -27,7 +28,7 @@ use Rattle.stream_catalog.specs.Indices.{downsample_refusal, downsampled, delete
 use Rattle.stream_catalog.specs.Moves.{moves_refusal, moved_all}
 use Rattle.stream_catalog.specs.Puts.{put_into, picked_by}
 use Rattle.stream_catalog.specs.Rounds.{lifecycle_run}
-use Rattle.stream_catalog.specs.Streams.{stream_deleted, rolled_over}
+use Rattle.stream_catalog.specs.Streams.{created, stream_deleted, rolled_over}
 use Rattle.stream_catalog.specs.Units.{unit_of}
 
 abbrev schema : Schema
@@ -62,7 +63,7 @@ abbrev new_facts : HeldIndex
 new_facts = record { name = codes "b"; origin = codes "b"; template = codes "t"; start = pos 10000; end = pos 20000; blocked = false; interval = None; mapping = mapping }
 
 abbrev template : Template
-template = record { name = codes "t"; patterns = codes "s" ∷ []; priority = 0; strict = true; shards = 1; look_back = pos 60000; look_ahead = pos 60000; schema = schema }
+template = record { name = codes "t"; patterns = codes "s" ∷ []; priority = 0; strict = true; shards = 1; look_back = pos 30000; look_ahead = pos 60000; schema = schema }
 
 abbrev stream : Option Lifecycle → PlainStream
 stream life = record { facts = record { name = codes "s"; template = codes "t"; generation = 2; members = codes "a" ∷ codes "b" ∷ [] }; life = life }
@@ -91,6 +92,16 @@ put_plain = refl
 pub put_seen : put_into seen_way (see_catalog (two false None [])) (codes "a") (row_at 97 1600 1) ≡ see_catalog (put_into plain_way (two false None []) (codes "a") (row_at 97 1600 1))
 put_seen = refl
 
+-- a plain machine keeps rows as they came, and what is seen of it keeps them by series, the latest first
+abbrev times_of : PlainCatalog → List (List ℤ)
+times_of c = map (λ i. map (λ r. r.time) i.rows) c.indices
+
+pub put_behind : times_of (put_into plain_way (two false None []) (codes "a") (row_at 97 1200 1)) ≡ (pos 1100 ∷ pos 1500 ∷ pos 1200 ∷ []) ∷ [] ∷ []
+put_behind = refl
+
+pub put_between : times_of (put_into seen_way (see_catalog (two false None [])) (codes "a") (row_at 97 1200 1)) ≡ (pos 1500 ∷ pos 1200 ∷ pos 1100 ∷ []) ∷ [] ∷ []
+put_between = refl
+
 -- which member takes a time
 pub picked : picked_by (facts_of (two false None [])) (stream None) (pos 10000) ≡ Ok (codes "b")
 picked = refl
@@ -117,8 +128,11 @@ unfolding down bucket_start
 fold_seen = refl
 
 -- a task of two series: after one unit all is as before, after two the fold stands in the stream
+abbrev task_of : List ℕ → List ℕ → ℕ → Bool → TaskFacts
+task_of index target done rises = record { index = index; target = target; by = second; done = done; rises = rises }
+
 abbrev folding : ℕ → PlainCatalog
-folding done = two true None (record { index = codes "a"; target = codes "f"; by = second; done = done; rises = true } ∷ [])
+folding done = two true None (task_of (codes "a") (codes "f") done true ∷ [])
 
 pub unit_first : unit_of plain_way (folding 0) ≡ folding 1
 unfolding unit_of
@@ -135,6 +149,23 @@ unit_member = refl
 pub unit_seen : see_catalog (unit_of plain_way (folding 1)) ≡ unit_of seen_way (see_catalog (folding 1))
 unfolding unit_of down bucket_start
 unit_seen = refl
+
+-- a fold has the mark of its task, whatever its index had
+pub unit_mark : map (λ i. i.facts.mapping.schema.rises) (unit_of plain_way (two true None (task_of (codes "a") (codes "f") 1 false ∷ []))).indices ≡ true ∷ false ∷ []
+unfolding unit_of
+unit_mark = refl
+
+-- of two tasks the oldest goes on, and goes with its last series; the other waits
+abbrev folding_both : ℕ → PlainCatalog
+folding_both done = two true None (task_of (codes "a") (codes "f") done true ∷ task_of (codes "b") (codes "g") 0 true ∷ [])
+
+pub unit_oldest : unit_of plain_way (folding_both 0) ≡ folding_both 1
+unfolding unit_of
+unit_oldest = refl
+
+pub unit_other : (unit_of plain_way (folding_both 1)).tasks ≡ task_of (codes "b") (codes "g") 0 true ∷ []
+unfolding unit_of
+unit_other = refl
 
 -- moves: the write index stays; what was taken out is no member; it may come back
 pub move_write : moves_refusal (facts_of (two true None [])) (Remove (codes "s") (codes "a") ∷ Remove (codes "s") (codes "b") ∷ []) ≡ Some (IsWriteIndex (codes "s") (codes "b"))
@@ -157,8 +188,23 @@ delete_write = refl
 pub deleted_task : (index_deleted (folding 1) (codes "a")).tasks ≡ []
 deleted_task = refl
 
+pub deleted_one_task : (index_deleted (folding_both 0) (codes "a")).tasks ≡ task_of (codes "b") (codes "g") 0 true ∷ []
+deleted_one_task = refl
+
 pub all_gone : numbers (stream_deleted (folding 1) (codes "s")) ≡ []
 all_gone = refl
+
+-- a first index begins as far before the present as its template looks back, at the earliest at 0, and ends as far behind it as that looks ahead
+abbrev streamless : PlainCatalog
+streamless = record { templates = template ∷ []; streams = []; indices = []; tasks = [] }
+
+pub created_window : windows (created streamless (codes "s") (pos 100000)) ≡ (pos 70000, pos 160000) ∷ []
+unfolding pattern_takes
+created_window = refl
+
+pub created_early : windows (created streamless (codes "s") (pos 15000)) ≡ (pos 0, pos 75000) ∷ []
+unfolding pattern_takes
+created_early = refl
 
 -- a new write index begins where the last one ends, also where the present is behind that, and reaches as far ahead of the later
 -- of both as its template looks
@@ -192,3 +238,31 @@ run_too_soon = refl
 pub run_task : map (λ (t : TaskFacts). t.target) (lifecycle_run (two false keeping []) (pos 15000)).catalog.tasks ≡ downsample_name second (codes "a") ∷ []
 unfolding lifecycle_run
 run_task = refl
+
+-- ages count from the end of a window, and a round comes at the very age that it names; it folds by its interval, not by that age
+abbrev keeping_later : Option Interval → Option Lifecycle
+keeping_later retention = Some (record { retention = retention; rounds = record { after = seconds 3 (omega arith) (omega arith); by = seconds 2 (omega arith) (omega arith) } ∷ [] })
+
+pub run_before_bound : (lifecycle_run (two false (keeping_later None) []) (pos 12999)).ran ≡ record { extended = 1; deleted = 0; started = 0 }
+unfolding lifecycle_run
+run_before_bound = refl
+
+pub run_at_bound : (lifecycle_run (two false (keeping_later None) []) (pos 13000)).ran ≡ record { extended = 1; deleted = 0; started = 1 }
+unfolding lifecycle_run
+run_at_bound = refl
+
+pub run_interval : map (λ (t : TaskFacts). t.by.number) (lifecycle_run (two false (keeping_later None) []) (pos 13000)).catalog.tasks ≡ 2 ∷ []
+unfolding lifecycle_run
+run_interval = refl
+
+-- retention is looked at before rounds, and it too comes at its very age
+abbrev after_four : Option Lifecycle
+after_four = keeping_later (Some (seconds 4 (omega arith) (omega arith)))
+
+pub run_folds_first : (lifecycle_run (two false after_four []) (pos 13999)).ran ≡ record { extended = 1; deleted = 0; started = 1 }
+unfolding lifecycle_run
+run_folds_first = refl
+
+pub run_retention_wins : (lifecycle_run (two false after_four []) (pos 14000)).ran ≡ record { extended = 1; deleted = 1; started = 0 }
+unfolding lifecycle_run
+run_retention_wins = refl

@@ -1,11 +1,10 @@
 -- The laws that tie a plain catalogue to what is seen of it.
-use Rattle.std.specs.Prelude.{◌≡◌, ◌≤◌, ℕ, ℤ, Bool, true, false, List, length, Option, None, Some}
+use Rattle.std.specs.Prelude.{◌≡◌, ℕ, ℤ, Bool, true, false, List, length, Option, None, Some}
 use Rattle.std.specs.Option.{option_map}
 use Rattle.row_cells.specs.declared.rows.Row.{Row}
-use Rattle.row_cells.specs.declared.schemas.Schema.{Schema}
 use Rattle.row_cells.specs.Each.{Each}
-use Rattle.row_cells.specs.KeyedRows.{IsRowOf}
-use Rattle.row_cells.specs.RowLists.{AreDistinct, AreInRowOrder, documents, has_place, in_row_order}
+use Rattle.row_cells.specs.KeyedRows.{AreRowsOf}
+use Rattle.row_cells.specs.RowLists.{AreDistinct, has_place, in_row_order}
 use Rattle.time_text.specs.Instant.{IsInstant}
 use Rattle.time_text.specs.declared.intervals.Interval.{Interval}
 use Rattle.downsample_fold.specs.Laws.{series_of}
@@ -110,15 +109,9 @@ UnitsGoThrough = (c : PlainCatalog) → IsSoundCatalog c → see_catalog (unit_o
 abbrev pub TasksKeep : Type 0
 TasksKeep = (c : PlainCatalog) → IsSoundCatalog c → Each (λ task. (i : PlainIndex) → index_named task.index c.indices ≡ Some i → kept_rows task (see_index i) ≡ kept_rows task i) c.tasks
 
--- the rows of an index that answer
-pub record AreShown (schema : Schema) (rows : List Row) : Type 0 where
-  pub each : Each (IsRowOf schema) rows
-  pub order : AreInRowOrder rows
-  pub few : documents rows ≤ 16777216
-
--- an index that is seen again itself has rows that fit, in order, and few
+-- an index that is seen again itself has rows of its schema
 abbrev pub ShownRows : Type 0
-ShownRows = (c : PlainCatalog) (n : List ℕ) (i : PlainIndex) → IsSeenCatalog c → index_named n c.indices ≡ Some i → AreShown i.facts.mapping.schema i.rows
+ShownRows = (c : PlainCatalog) (n : List ℕ) (i : PlainIndex) → IsSeenCatalog c → index_named n c.indices ≡ Some i → AreRowsOf i.facts.mapping.schema i.rows
 
 -- ---- sound catalogues stay sound
 
