@@ -1,5 +1,6 @@
 -- The laws of catalogues that these proofs stand on, together.
 use Rattle.stream_catalog.specs.Laws.{FactsStay, RowTestsStay, SeriesStay, LookupsStay, FoundIsSound, SoundShows, ChangesGoThrough, RunsGoThrough, PutsGoThrough, PutsKeepShowing, DownsamplesGoThrough, UnitsGoThrough}
+use Rattle.stream_catalog.specs.Laws.{BlocksKeepSound, CreationsKeepSound, DeletionsKeepSound, DownsamplesKeepSound, LivesKeepSound, MovesKeepSound, RolloversKeepSound, RunsKeepSound, StreamDeletionsKeepSound}
 
 pub record CatalogLaws : Type 0 where
   pub facts : FactsStay
@@ -14,3 +15,15 @@ pub record CatalogLaws : Type 0 where
   pub puts_keep : PutsKeepShowing
   pub downsamples : DownsamplesGoThrough
   pub units : UnitsGoThrough
+
+-- those on catalogues that stay sound
+pub record SoundLaws : Type 0 where
+  pub blocks : BlocksKeepSound
+  pub downsamples : DownsamplesKeepSound
+  pub lives : LivesKeepSound
+  pub stream_deletions : StreamDeletionsKeepSound
+  pub deletions : DeletionsKeepSound
+  pub creations : CreationsKeepSound
+  pub rollovers : RolloversKeepSound
+  pub moves : MovesKeepSound
+  pub runs : RunsKeepSound

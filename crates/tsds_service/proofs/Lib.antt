@@ -3,3 +3,5 @@ mod SampleLemmas
 mod ItemLemmas
 mod StepLemmas
 mod MachineLemmas
+mod SoundLemmas
+mod UnitLemmas

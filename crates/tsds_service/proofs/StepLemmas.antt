@@ -52,7 +52,7 @@ unless-see (Some c) m seen plain same = refl
 told-see : (m : Machine) (seen plain : Reply) → seen ≡ plain → told (see m) seen ≡ see_stepped (told m plain)
 told-see m seen plain same = ap (told (see m)) same
 
-caused_none : (a : About) (refusal : Option CatalogError) → caused a refusal ≡ None → refusal ≡ None
+pub caused_none : (a : About) (refusal : Option CatalogError) → caused a refusal ≡ None → refusal ≡ None
 caused_none a None is = refl
 caused_none a (Some e) is = absurd (no is)
   where

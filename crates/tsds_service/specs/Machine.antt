@@ -1,5 +1,5 @@
 -- The machine: a catalogue, the present moment, and whether records are kept.
-use Rattle.std.specs.Prelude.{◌≡◌, ℤ, pos, Bool, []}
+use Rattle.std.specs.Prelude.{◌≡◌, ℕ, zero, suc, ℤ, pos, Bool, []}
 use Rattle.time_text.specs.Instant.{IsInstant}
 use Rattle.stream_catalog.specs.Plain.{PlainCatalog}
 use Rattle.stream_catalog.specs.Sound.{IsSoundCatalog}
@@ -22,6 +22,11 @@ empty_machine kept = record { catalog = record { templates = []; streams = []; i
 -- one unit: the oldest task goes on by a series
 abbrev pub unit : Way → Machine → Machine
 unit way m = record m { catalog = unit_of way m.catalog }
+
+-- so many units, one after another
+abbrev pub units : Way → ℕ → Machine → Machine
+units way zero m = m
+units way (suc n) m = units way n (unit way m)
 
 pub record IsSound (m : Machine) : Type 0 where
   pub catalog : IsSoundCatalog m.catalog

@@ -1,7 +1,10 @@
 //! The laws that tie a plain machine to what is seen of it, for crates above.
 ghost use Rattle.tsds_service.specs.Laws.{SamplesStay, SeenAgain, StepsRefine, StepsStand, UnitsRefine, UnitsStand};
+ghost use Rattle.tsds_service.specs.Laws.{EmptyIsSeen, ManyUnitsKeepSeen, ManyUnitsKeepSound, ManyUnitsRefine, ManyUnitsStand, StepsKeepSeen, StepsKeepSound, UnitsKeepSeen, UnitsKeepSound};
 
-use stream_catalog::{changes_go_through, indices_are_sound, seen_again, tests_stay};
+use stream_catalog::{
+    changes_go_through, changes_keep_sound, indices_are_sound, seen_again, tests_stay,
+};
 
 /// What is seen of a sound machine is sound, and seen again itself.
 pub fn machines_are_seen()
@@ -33,4 +36,40 @@ pub fn steps_stand()
     tests_stay();
     indices_are_sound();
     changes_go_through();
+}
+
+/// What a machine begins as is sound, and seen again itself.
+pub fn machines_begin()
+    ensures { EmptyIsSeen }
+{}
+
+/// A unit leaves a sound machine sound, and one that is seen again itself so too.
+pub fn units_keep()
+    ensures sound { UnitsKeepSound }
+    ensures seen { UnitsKeepSeen }
+{
+    changes_keep_sound();
+    machines_are_seen();
+    steps_stand();
+}
+
+/// The laws on a unit, of any number of units.
+pub fn many_units()
+    ensures sound { ManyUnitsKeepSound }
+    ensures seen { ManyUnitsKeepSeen }
+    ensures refine { ManyUnitsRefine }
+    ensures stand { ManyUnitsStand }
+{
+    units_keep();
+    steps_refine();
+}
+
+/// A step that puts neither a template nor documents leaves a sound machine sound, and one that is seen again itself so too.
+pub fn steps_keep()
+    ensures sound { StepsKeepSound }
+    ensures seen { StepsKeepSeen }
+{
+    changes_keep_sound();
+    machines_are_seen();
+    steps_stand();
 }

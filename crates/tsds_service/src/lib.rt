@@ -4,5 +4,8 @@
 mod laws;
 mod reply;
 
-pub use laws::{machines_are_seen, samples_stay, steps_refine, steps_stand};
+pub use laws::{
+    machines_are_seen, machines_begin, many_units, samples_stay, steps_keep, steps_refine,
+    steps_stand, units_keep,
+};
 pub use reply::Reply;

@@ -1,0 +1,111 @@
+-- A step leaves a sound machine sound.
+use Rattle.std.specs.Prelude.{◌≡◌, ℕ, Bool, true, false, List, [], Option, Some, None, if◌then◌else◌}
+use Rattle.std.proofs.Common.{refl, sym, subst}
+use Rattle.lifecycle_swap.specs.BodyLaws.{bodies_are_lifecycles}
+use Rattle.lifecycle_swap.specs.Bodies.{lifecycle_of}
+use Rattle.rest_request.specs.Message as asked
+use Rattle.rest_request.specs.Message.{Message}
+use Rattle.serde_json.specs.Data.{Data}
+use Rattle.stream_catalog.specs.Indices.{block_refusal, blocked_in, downsample_refusal, downsampled, delete_refusal, index_deleted}
+use Rattle.stream_catalog.specs.Lists.{with_found, stream_named}
+use Rattle.stream_catalog.specs.Moves.{moves_refusal, moved_all}
+use Rattle.stream_catalog.specs.Plain.{PlainCatalog, facts_of}
+use Rattle.stream_catalog.specs.Rounds.{lifecycle_run}
+use Rattle.stream_catalog.specs.Sound.{IsSoundCatalog}
+use Rattle.stream_catalog.specs.Streams.{create_refusal, created, named_refusal, stream_deleted, life_set, rollover_refusal, rolled_over, rolled_names}
+use Rattle.stream_catalog.specs.Ways.{plain_way}
+use Rattle.stream_catalog.specs.declared.answers.CatalogError.{CatalogError}
+use Rattle.time_text.specs.declared.intervals.Interval.{Interval}
+use Rattle.tsds_service.specs.Bodies.{fixed_interval_of, moves_of}
+use Rattle.tsds_service.specs.Causes as cause
+use Rattle.tsds_service.specs.Causes.{Cause, refused}
+use Rattle.tsds_service.specs.Laws.{SeenAgain, StepsStand, StepsKeepSound, StepsKeepSeen, PutsNeither}
+use Rattle.tsds_service.specs.Machine.{Machine, IsSound, IsSeen}
+use Rattle.tsds_service.specs.Questions.{Asking}
+use Rattle.tsds_service.specs.Replies.{ack, stream_reply, rolled_reply, blocked_reply}
+use Rattle.tsds_service.specs.Step as spec
+use Rattle.tsds_service.specs.Step.{Stepped, About, told, changed, unless, caused, about_name, about_index, about_fold, fold_names_refusal, write_index, step_of, step}
+use Rattle.tsds_service.specs.declared.reply.Reply.{Reply}
+use Rattle.tsds_service.proofs.CatalogLaws.{SoundLaws}
+use Rattle.tsds_service.proofs.StepLemmas.{caused_none}
+
+-- ---- answers
+
+unless-sound : (o : Option Cause) (m : Machine) (answer : Stepped) → IsSound m → (o ≡ None → IsSound answer.machine) → IsSound (unless o m answer).machine
+unless-sound None m answer sound keeps = keeps refl
+unless-sound (Some c) m answer sound keeps = sound
+
+found-sound : {A : Type 0} (o : Option A) (missed : Stepped) (answer : A → Stepped) → IsSound missed.machine → ((a : A) → o ≡ Some a → IsSound (answer a).machine) → IsSound (with_found o missed answer).machine
+found-sound None missed answer sound keeps = sound
+found-sound (Some a) missed answer sound keeps = keeps a refl
+
+module _ (laws : SoundLaws) (m : Machine) (sound : IsSound m) where
+  left : (c : PlainCatalog) → IsSoundCatalog c → IsSound (record m { catalog = c })
+  left c is = record { catalog = is; now = sound.now }
+
+  -- a change that keeps a catalogue sound where nothing refuses it
+  by_change : (a : About) (refusal : Option CatalogError) (reply : Reply) (c : PlainCatalog) → (refusal ≡ None → IsSoundCatalog c) →
+      IsSound (unless (caused a refusal) m (changed m reply c)).machine
+  by_change a refusal reply c keeps = unless-sound (caused a refusal) m (changed m reply c) sound (λ none. left c (keeps (caused_none a refusal none)))
+
+  put_lifecycle-sound : (name : List ℕ) (body : Data) → IsSound (spec.put_lifecycle m name body).machine
+  put_lifecycle-sound name body =
+      unless-sound (caused (about_name name) (named_refusal (facts_of m.catalog) name)) m
+      (with_found (lifecycle_of body) (told m (refused cause.bad_body)) (λ life. changed m ack (life_set m.catalog name life))) sound
+      (λ none. found-sound (lifecycle_of body) (told m (refused cause.bad_body)) (λ life. changed m ack (life_set m.catalog name life)) sound
+      (λ life is. left (life_set m.catalog name life) (laws.lives m.catalog name life (bodies_are_lifecycles body life is) sound.catalog)))
+
+  downsample-sound : (source target : List ℕ) (by : Option Interval) → IsSound (spec.downsample_by plain_way m source target by).machine
+  downsample-sound source target None =
+      unless-sound (caused (about_name target) (fold_names_refusal (facts_of m.catalog) source target)) m (told m (refused cause.bad_body)) sound (λ none. sound)
+  downsample-sound source target (Some by) =
+      by_change (about_fold (facts_of m.catalog) source target by) (downsample_refusal (facts_of m.catalog) source target by) ack (downsampled plain_way m.catalog source target by)
+      (λ none. laws.downsamples m.catalog source target by sound.catalog none)
+
+  modify-sound : (body : Data) → IsSound (spec.modify m body).machine
+  modify-sound body =
+      found-sound (moves_of body) (told m (refused cause.bad_body))
+      (λ moves. unless (caused (about_name []) (moves_refusal (facts_of m.catalog) moves)) m (changed m ack (moved_all m.catalog moves))) sound
+      (λ moves is. by_change (about_name []) (moves_refusal (facts_of m.catalog) moves) ack (moved_all m.catalog moves) (λ none. laws.moves m.catalog moves sound.catalog none))
+
+  flush-sound : IsSound (spec.flush m).machine
+  flush-sound = by_test m.kept
+    where
+      by_test : (b : Bool) → IsSound (if b then record { reply = ack; machine = m; wrote = true } else told m (refused cause.no_data)).machine
+      by_test true = sound
+      by_test false = sound
+
+  pub step_of-sound : (asking : Asking) (message : Message) → PutsNeither message → IsSound (step_of asking plain_way m message).machine
+  step_of-sound asking (asked.put_template name body) neither = absurd neither
+  step_of-sound asking (asked.put_stream name) neither =
+      by_change (about_name name) (create_refusal (facts_of m.catalog) name m.now) ack (created m.catalog name m.now) (laws.creations m.catalog name m.now sound.now sound.catalog)
+  step_of-sound asking (asked.get_stream name) neither =
+      found-sound (stream_named name m.catalog.streams) (told m (refused (cause.no_such_name name))) (λ s. told m (stream_reply (facts_of m.catalog) s)) sound (λ s is. sound)
+  step_of-sound asking (asked.delete_stream name) neither =
+      by_change (about_name name) (named_refusal (facts_of m.catalog) name) ack (stream_deleted m.catalog name) (λ none. laws.stream_deletions m.catalog name sound.catalog)
+  step_of-sound asking (asked.bulk path body) neither = absurd neither
+  step_of-sound asking (asked.rollover name) neither =
+      by_change (about_index (write_index (facts_of m.catalog) name)) (rollover_refusal (facts_of m.catalog) name m.now) (rolled_reply (rolled_names (facts_of m.catalog) name m.now))
+      (rolled_over m.catalog name m.now) (laws.rollovers m.catalog name m.now sound.now sound.catalog)
+  step_of-sound asking (asked.block n) neither =
+      by_change (about_index n) (block_refusal (facts_of m.catalog) n) (blocked_reply n) (blocked_in m.catalog n) (λ none. laws.blocks m.catalog n sound.catalog)
+  step_of-sound asking (asked.downsample source target body) neither = downsample-sound source target (fixed_interval_of body)
+  step_of-sound asking (asked.modify body) neither = modify-sound body
+  step_of-sound asking (asked.delete_index n) neither =
+      by_change (about_index n) (delete_refusal (facts_of m.catalog) n) ack (index_deleted m.catalog n) (laws.deletions m.catalog n sound.catalog)
+  step_of-sound asking (asked.put_lifecycle name body) neither = put_lifecycle-sound name body
+  step_of-sound asking asked.run_lifecycle neither = left (lifecycle_run m.catalog m.now).catalog (laws.runs m.catalog m.now sound.catalog)
+  step_of-sound asking asked.tasks neither = sound
+  step_of-sound asking (asked.search_rows name body) neither = sound
+  step_of-sound asking (asked.count_rows name body) neither = sound
+  step_of-sound asking (asked.get_doc n id) neither = sound
+  step_of-sound asking asked.flush neither = flush-sound
+
+pub steps_keep_sound : SoundLaws → StepsKeepSound
+unfolding step
+steps_keep_sound laws asking m message now sound instant neither = step_of-sound laws (record m { now = now }) (record { catalog = sound.catalog; now = instant }) asking message neither
+
+pub steps_keep_seen : SoundLaws → SeenAgain → StepsStand → StepsKeepSeen
+steps_keep_seen laws again stand asking m message now seen instant neither =
+    subst (λ (s : Stepped). IsSeen s.machine) (sym (stand asking m message now seen))
+    (again (step asking plain_way m message now).machine (steps_keep_sound laws asking m message now seen.sound instant neither))
