@@ -63,6 +63,10 @@ pub data Cause : Type 0 where
   window_too_large : ℕ → Cause
   bad_sort_field : List ℕ → Cause
   bad_sort : Cause
+  -- of a link: a head that isn't one of HTTP's or passes its limits, a body without a length, and one past the limit
+  bad_head : Cause
+  needs_length : Cause
+  body_too_large : Cause
 
 -- why an item of a bulk request is refused, in the order in which it is looked at
 pub data ItemCause : Type 0 where
@@ -174,6 +178,9 @@ said too_many_buckets = wrong 400 (codes "too_many_buckets_exception") (codes "m
 said (window_too_large asked) = bad_argument (named (codes "from + size must be at most [10000] but was") (decimal asked))
 said (bad_sort_field path) = bad_argument (named (codes "cannot sort on") path)
 said bad_sort = wrong 400 (codes "parse_exception") (codes "bad sort")
+said bad_head = bad_argument (codes "bad head")
+said needs_length = wrong 411 (codes "illegal_argument_exception") (codes "length required")
+said body_too_large = wrong 413 (codes "illegal_argument_exception") (codes "body too large")
 
 abbrev pub item_said : ItemCause → Wrong
 item_said only_create = bad_argument (codes "only create is allowed in data streams")

@@ -1,6 +1,8 @@
 -- The definitions on a small machine, worked out: a stream of two members, and two rows in the first of them.
-use Rattle.std.proofs.Common.{◌≡◌, Bool, ℕ, pos, List, [], ◌∷◌, Option, Some, None, true, false, refl, arith, codes}
 use Rattle.std.specs.Prelude.{Err, map}
+use Rattle.std.proofs.Common.{◌≡◌, Bool, ℕ, pos, List, [], ◌∷◌, Option, Some, None, true, false, refl, arith, codes}
+use Rattle.reply_json.specs.Trees as tree
+use Rattle.reply_json.specs.declared.out.Out.{Flag, Num, Word as Quoted, List as Listed, Object}
 use Rattle.bulk_json.specs.declared.action.Action.TheVariants.{Create, Index}
 use Rattle.bulk_json.specs.declared.items.Item.{Item}
 use Rattle.json_walk.specs.Leaves as leaf
@@ -15,29 +17,34 @@ use Rattle.row_cells.specs.declared.schemas.Schema.{Schema}
 use Rattle.serde_json.specs.Data.{Data, number, string, array, object, unsigned, no_items, item as element, no_members, member}
 use Rattle.series_id.specs.Ids.{id_of}
 use Rattle.series_id.specs.declared.keys.KeyError.TheVariants.{KeyTooLong}
-use Rattle.stream_catalog.specs.Plain.{PlainIndex, PlainStream, PlainCatalog}
+use Rattle.stream_catalog.specs.Plain.{PlainIndex, PlainStream, PlainCatalog, facts_of}
 use Rattle.stream_catalog.specs.Puts.{is_full}
 use Rattle.stream_catalog.specs.Ways.{plain_way}
 use Rattle.stream_catalog.specs.declared.facts.HeldIndex.{HeldIndex}
 use Rattle.stream_catalog.specs.declared.facts.TaskFacts.{TaskFacts}
-use Rattle.synthetic_source.specs.declared.errors.DocKind.TheVariants.{NoTime, Unmapped}
+use Rattle.synthetic_source.specs.declared.errors.DocKind.TheVariants.{NoTime, Unmapped, NotLeaf, WrongType, ManyValues, BadAggregate}
 use Rattle.synthetic_source.specs.Document.{document_cells}
 use Rattle.synthetic_source.specs.Faults.{fault_at, time_fault, time_of}
 use Rattle.time_text.specs.declared.intervals.Interval.{Interval}
 use Rattle.time_text.specs.declared.units.Unit.TheVariants.{S}
+use Rattle.synthetic_source.specs.Normal.{norm}
+use Rattle.synthetic_source.specs.Replies.{out_of}
+use Rattle.ts_mapping.specs.declared.kinds.MapKind.TheVariants.{Shape}
 use Rattle.ts_mapping.specs.declared.templates.Mapping.{Mapping}
 use Rattle.ts_mapping.specs.declared.templates.Template.{Template}
 use Rattle.rest_request.specs.Message.{flush}
 use Rattle.stream_catalog.specs.Rounds.{lifecycle_run}
+use Rattle.stream_catalog.specs.Streams.{next_name, rolled_names}
 use Rattle.stream_catalog.specs.Units.{unit_of}
 use Rattle.stream_catalog.specs.declared.answers.What.TheVariants.{Streams}
 use Rattle.tsds_service.specs.Machine.{Machine, unit}
-use Rattle.tsds_service.specs.Questions.{Asking}
-use Rattle.tsds_service.specs.Replies.{ack, ran_reply}
-use Rattle.tsds_service.specs.Step.{told, downsample_by, modify, run_lifecycle, step}
-use Rattle.tsds_service.specs.Bulk.{Outcome, taken, barred, by_document, by_key, by_place, item_outcome}
+use Rattle.tsds_service.specs.Messages.{moment_by}
+use Rattle.tsds_service.specs.Questions.{Asking, no_document, document_reply}
+use Rattle.tsds_service.specs.Replies.{ack, interval_word, ran_reply, rolled_reply, tasks_reply}
+use Rattle.tsds_service.specs.Step.{told, downsample_by, get_document, modify, run_lifecycle, step}
+use Rattle.tsds_service.specs.Bulk.{Outcome, taken, barred, by_document, by_key, by_place, item_outcome, item_tree, bulk_reply}
 use Rattle.tsds_service.specs.Causes as cause
-use Rattle.tsds_service.specs.Causes.{refused, said, item_said, only_create, no_stream, no_object, bad_time, outside, blocked, bad_document, no_routing, long_key, conflict, full}
+use Rattle.tsds_service.specs.Causes.{Cause, ItemCause, refused, said, item_said, only_create, no_stream, no_object, bad_time, outside, blocked, bad_document, no_routing, long_key, conflict, full}
 
 abbrev schema : Schema
 schema = record {
@@ -136,6 +143,14 @@ tenth_cause = refl
 pub eleventh_cause : (i : PlainIndex) (row : Row) → has_place row.key row.time i.rows ≡ false → is_full i.rows ≡ true → by_place (codes "a") i row ≡ barred (full (codes "a"))
 eleventh_cause i row free is = rw (free, is) refl
 
+-- where two of them hold the earlier one is told: a blocked index before a fault, a taken place before a full index
+pub blocked_first : outcome true (object (member (codes "@timestamp") (number (unsigned 1600)) (member (codes "x") (number (unsigned 1)) no_members))) ≡ barred (blocked (codes "a"))
+unfolding time_fault time_of leaf.leaves_of
+blocked_first = refl
+
+pub conflict_first : (i : PlainIndex) (row : Row) → has_place row.key row.time i.rows ≡ true → is_full i.rows ≡ true → by_place (codes "a") i row ≡ barred (conflict (id_of row.key row.time))
+conflict_first i row held is = rw held refl
+
 -- a document that nothing bars
 pub taken_item : outcome false (document 97 1600 1) ≡ taken (codes "a") (row_at 97 1600 1)
 unfolding time_fault time_of leaf.leaves_of document_cells fault_at
@@ -167,6 +182,29 @@ fold_named = refl
 
 pub fold_bodiless : downsample_by plain_way (machine true None []) (codes "a") (codes "c") None ≡ told (machine true None []) (refused cause.bad_body)
 fold_bodiless = refl
+
+-- an index that has an interval takes a greater multiple of it alone
+abbrev two_seconds : Interval
+two_seconds = record { number = 2; unit = S; in_range = (omega arith, omega arith) }
+
+abbrev three_seconds : Interval
+three_seconds = record { number = 3; unit = S; in_range = (omega arith, omega arith) }
+
+abbrev folded_machine : Machine
+folded_machine = record (machine true None []) {
+  catalog = record (two true None []) {
+    indices = record { facts = record (first_facts true) { interval = Some two_seconds }; rows = [] } ∷ record { facts = last_facts; rows = [] } ∷ [];
+  };
+}
+
+pub fold_same : downsample_by plain_way folded_machine (codes "a") (codes "c") (Some two_seconds) ≡ told folded_machine (refused (cause.not_greater (interval_word two_seconds) (interval_word two_seconds)))
+fold_same = refl
+
+pub fold_between : downsample_by plain_way folded_machine (codes "a") (codes "c") (Some three_seconds) ≡ told folded_machine (refused (cause.not_multiple (interval_word three_seconds) (interval_word two_seconds)))
+fold_between = refl
+
+pub fold_lesser : downsample_by plain_way folded_machine (codes "a") (codes "c") (Some second) ≡ told folded_machine (refused (cause.not_greater (interval_word second) (interval_word two_seconds)))
+fold_lesser = refl
 
 -- with the last series a fold stands in the place of its index, in its stream too; not before
 abbrev folding : ℕ → Machine
@@ -211,6 +249,174 @@ run_deletes = refl
 pub flush_refused : (asking : Asking) → step asking plain_way (machine false None []) flush (pos 16000) ≡ told (record (machine false None []) { now = pos 16000 }) (refused cause.no_data)
 unfolding step
 flush_refused asking = refl
+
+-- a moment is taken where it isn't earlier than the present, which stays where it is refused
+pub moment_same : moment_by (pos 5) (Some (pos 5)) ≡ record { reply = None; now = pos 5 }
+moment_same = refl
+
+pub moment_earlier : moment_by (pos 5) (Some (pos 4)) ≡ record { reply = Some (refused cause.bad_moment); now = pos 5 }
+moment_earlier = refl
+
+pub moment_unread : moment_by (pos 5) None ≡ record { reply = Some (refused cause.bad_moment); now = pos 5 }
+moment_unread = refl
+
+-- ---- replies: their members, in order
+
+-- {"acknowledged":true}
+pub ack_tree : ack ≡ record { status = 200; body = Object (tree.member (codes "acknowledged") (Flag true) ∷ []) }
+ack_tree = refl
+
+pub rolled_tree : rolled_reply (record { old = codes "i"; new = codes "j" }) ≡ record {
+  status = 200;
+  body = Object (
+      tree.member (codes "acknowledged") (Flag true)
+      ∷ tree.member (codes "old_index") (Quoted (codes "i"))
+      ∷ tree.member (codes "new_index") (Quoted (codes "j"))
+      ∷ tree.member (codes "rolled_over") (Flag true) ∷ []);
+}
+rolled_tree = refl
+
+-- the write index before, and the one of the next generation
+pub rolled_from : rolled_names (facts_of (two false None [])) (codes "s") (pos 15000) ≡ record { old = codes "b"; new = next_name (stream None) (pos 15000) }
+rolled_from = refl
+
+pub ran_tree : ran_reply (record { extended = 1; deleted = 0; started = 2 }) ≡ record {
+  status = 200;
+  body = Object (
+      tree.member (codes "acknowledged") (Flag true)
+      ∷ tree.member (codes "extended") (Num (pos 1))
+      ∷ tree.member (codes "deleted") (Num (pos 0))
+      ∷ tree.member (codes "started") (Num (pos 2)) ∷ []);
+}
+ran_tree = refl
+
+-- one series of two is done
+pub tasks_tree : tasks_reply (folding 1).catalog ≡ record {
+  status = 200;
+  body = Object (tree.member (codes "tasks") (Listed (Object (
+      tree.member (codes "action") (Quoted (codes "downsample"))
+      ∷ tree.member (codes "index") (Quoted (codes "a"))
+      ∷ tree.member (codes "target") (Quoted (codes "f"))
+      ∷ tree.member (codes "fixed_interval") (Quoted (interval_word second))
+      ∷ tree.member (codes "done") (Num (pos 1))
+      ∷ tree.member (codes "series") (Num (pos 2)) ∷ []) ∷ [])) ∷ []);
+}
+tasks_tree = refl
+
+pub no_tasks_tree : tasks_reply (machine false None []).catalog ≡ record { status = 200; body = Object (tree.member (codes "tasks") (Listed []) ∷ []) }
+no_tasks_tree = refl
+
+pub refused_tree : refused (cause.no_such_name (codes "m")) ≡ record {
+  status = 404;
+  body = Object (
+      tree.member (codes "error") (Object (
+      tree.member (codes "type") (Quoted (codes "index_not_found_exception"))
+      ∷ tree.member (codes "reason") (Quoted (codes "no such index [m]")) ∷ []))
+      ∷ tree.member (codes "status") (Num (pos 404)) ∷ []);
+}
+refused_tree = refl
+
+-- an item that is taken tells its backing index, and one that is barred its stream
+pub taken_tree : item_tree (item None) (taken (codes "a") (row_at 97 1600 1)) ≡ Object (tree.member (codes "create") (Object (
+    tree.member (codes "_index") (Quoted (codes "a"))
+    ∷ tree.member (codes "_id") (Quoted (id_of (key 97) (pos 1600)))
+    ∷ tree.member (codes "result") (Quoted (codes "created"))
+    ∷ tree.member (codes "status") (Num (pos 201)) ∷ [])) ∷ [])
+taken_tree = refl
+
+pub barred_tree : bulk_reply (item None ∷ []) (barred (conflict (codes "x")) ∷ []) ≡ record {
+  status = 200;
+  body = Object (
+      tree.member (codes "errors") (Flag true)
+      ∷ tree.member (codes "items") (Listed (Object (tree.member (codes "create") (Object (
+      tree.member (codes "_index") (Quoted (codes "s"))
+      ∷ tree.member (codes "status") (Num (pos 409))
+      ∷ tree.member (codes "error") (Object (
+      tree.member (codes "type") (Quoted (codes "version_conflict_engine_exception"))
+      ∷ tree.member (codes "reason") (Quoted (codes "[x]: version conflict, document already exists")) ∷ [])) ∷ [])) ∷ []) ∷ [])) ∷ []);
+}
+barred_tree = refl
+
+pub no_errors : (bulk_reply (item None ∷ []) (taken (codes "a") (row_at 97 1600 1) ∷ [])).body ≡ Object (
+    tree.member (codes "errors") (Flag false)
+    ∷ tree.member (codes "items") (Listed (item_tree (item None) (taken (codes "a") (row_at 97 1600 1)) ∷ [])) ∷ [])
+no_errors = refl
+
+-- a document that is there, and one that isn't
+pub found_tree : document_reply (first_facts false) (codes "x") (row_at 97 1500 7) ≡ record {
+  status = 200;
+  body = Object (
+      tree.member (codes "_index") (Quoted (codes "a"))
+      ∷ tree.member (codes "_id") (Quoted (codes "x"))
+      ∷ tree.member (codes "found") (Flag true)
+      ∷ tree.member (codes "_source") (out_of (norm schema (row_at 97 1500 7))) ∷ []);
+}
+found_tree = refl
+
+pub missing_tree : no_document (codes "i") (codes "x") ≡ record {
+  status = 404;
+  body = Object (
+      tree.member (codes "_index") (Quoted (codes "i"))
+      ∷ tree.member (codes "_id") (Quoted (codes "x"))
+      ∷ tree.member (codes "found") (Flag false) ∷ []);
+}
+missing_tree = refl
+
+pub missing_document : get_document plain_way (machine false None []) (codes "b") (codes "x") ≡ told (machine false None []) (no_document (codes "b") (codes "x"))
+missing_document = refl
+
+pub missing_index : get_document plain_way (machine false None []) (codes "s") (codes "x") ≡ told (machine false None []) (refused (cause.no_such_name (codes "s")))
+missing_index = refl
+
+-- ---- statuses and types
+
+abbrev kind_of : Cause → ℕ × List ℕ
+kind_of c = ((said c).status, (said c).kind)
+
+abbrev item_kind_of : ItemCause → ℕ × List ℕ
+item_kind_of c = ((item_said c).status, (item_said c).kind)
+
+abbrev argument : ℕ × List ℕ
+argument = (400, codes "illegal_argument_exception")
+
+abbrev parse : ℕ × List ℕ
+parse = (400, codes "parse_exception")
+
+abbrev document_parsing : ℕ × List ℕ
+document_parsing = (400, codes "document_parsing_exception")
+
+abbrev arguments : List Cause
+arguments =
+    cause.no_such_path ∷ cause.bad_parameter ∷ cause.bad_moment ∷ cause.reserved [] ∷ cause.no_template [] ∷ cause.is_write_index [] []
+    ∷ cause.not_blocked [] ∷ cause.not_greater [] [] ∷ cause.not_multiple [] [] ∷ cause.not_member [] [] ∷ cause.is_member [] []
+    ∷ cause.other_mapping [] [] ∷ cause.bad_window [] [] ∷ cause.changed_field [] [] ∷ cause.time_over [] ∷ cause.limit Streams
+    ∷ cause.no_data ∷ cause.bad_action 1 ∷ cause.missing_source 1 ∷ cause.no_items ∷ cause.wrong_field [] [] ∷ cause.no_increase []
+    ∷ cause.window_too_large 1 ∷ cause.bad_sort_field [] ∷ []
+
+pub argument_kinds : map {B = ℕ × List ℕ} kind_of arguments ≡ map {B = ℕ × List ℕ} (λ c. argument) arguments
+argument_kinds = refl
+
+pub parse_kinds : map {B = ℕ × List ℕ} kind_of (cause.bad_body ∷ cause.bad_query ∷ cause.bad_aggregation ∷ cause.bad_sort ∷ []) ≡ parse ∷ parse ∷ parse ∷ parse ∷ []
+parse_kinds = refl
+
+pub other_kinds : map {B = ℕ × List ℕ} kind_of (cause.bad_method ∷ cause.no_such_name [] ∷ cause.name_taken [] ∷ cause.bad_template Shape [] ∷ cause.wrong_value [] ∷ cause.too_many_buckets ∷ [])
+    ≡ (405, codes "illegal_argument_exception") ∷ (404, codes "index_not_found_exception") ∷ (400, codes "resource_already_exists_exception")
+    ∷ (400, codes "mapper_parsing_exception") ∷ (400, codes "query_shard_exception") ∷ (400, codes "too_many_buckets_exception") ∷ []
+other_kinds = refl
+
+pub link_kinds : map {B = ℕ × List ℕ} kind_of (cause.bad_head ∷ cause.needs_length ∷ cause.body_too_large ∷ [])
+    ≡ argument ∷ (411, codes "illegal_argument_exception") ∷ (413, codes "illegal_argument_exception") ∷ []
+link_kinds = refl
+
+-- the causes of items in their order
+pub item_kinds : map {B = ℕ × List ℕ} item_kind_of (only_create ∷ no_stream [] ∷ no_object ∷ bad_time NoTime ∷ outside (pos 0) ∷ blocked [] ∷ bad_document Unmapped [] ∷ no_routing ∷ long_key 1 ∷ conflict [] ∷ full [] ∷ [])
+    ≡ argument ∷ (404, codes "index_not_found_exception") ∷ document_parsing ∷ document_parsing ∷ argument ∷ (403, codes "cluster_block_exception")
+    ∷ (400, codes "strict_dynamic_mapping_exception") ∷ argument ∷ argument ∷ (409, codes "version_conflict_engine_exception") ∷ (429, codes "es_rejected_execution_exception") ∷ []
+item_kinds = refl
+
+pub document_kinds : map {B = ℕ × List ℕ} item_kind_of (bad_document NotLeaf [] ∷ bad_document WrongType [] ∷ bad_document ManyValues [] ∷ bad_document BadAggregate [] ∷ [])
+    ≡ document_parsing ∷ document_parsing ∷ document_parsing ∷ document_parsing ∷ []
+document_kinds = refl
 
 -- ---- texts
 

@@ -1,10 +1,11 @@
--- What a machine does with a message: its step, or the reply to a refused reading, and then a unit.
-use Rattle.std.specs.Prelude.{ℕ, ℤ, Bool, false, List, Result, Ok, Err}
+-- What a machine does with a message: its step, or the reply to a refused reading, and then a unit. What a moment line does.
+use Rattle.std.specs.Prelude.{ℕ, ℤ, int_le, Bool, false, List, Option, Some, None, Result, Ok, Err, if◌then◌else◌}
 use Rattle.rest_request.specs.Message.{Message}
 use Rattle.rest_request.specs.Table.{request_of}
 use Rattle.rest_request.specs.declared.request.RequestError.{RequestError}
 use Rattle.stream_catalog.specs.Ways.{Way}
-use Rattle.tsds_service.specs.Causes.{refused, request_cause}
+use Rattle.time_text.specs.Instant.{instant_of}
+use Rattle.tsds_service.specs.Causes.{refused, request_cause, bad_moment}
 use Rattle.tsds_service.specs.Machine.{Machine, unit}
 use Rattle.tsds_service.specs.Questions.{Asking}
 use Rattle.tsds_service.specs.Step.{Stepped, step}
@@ -27,3 +28,21 @@ told_by asking way m now (Err e) = record { reply = refused (request_cause e); s
 
 unfoldable pub message_told : Asking → Way → Machine → ℤ → List ℕ → List ℕ → List ℕ → Told
 message_told asking way m now method target body = told_by asking way m now (request_of method target body)
+
+-- ---- moment lines
+
+-- the present after a moment line, and the reply where it is refused; the machine stays, and no unit follows
+pub record MomentTold : Type 0 where
+  pub reply : Option Reply
+  pub now : ℤ
+
+abbrev pub moment_kept : ℤ → MomentTold
+moment_kept now = record { reply = Some (refused bad_moment); now = now }
+
+abbrev pub moment_by : ℤ → Option ℤ → MomentTold
+moment_by now None = moment_kept now
+moment_by now (Some next) = if int_le now next then record { reply = None; now = next } else moment_kept now
+
+-- what the line says becomes the present, where it is an instant and not earlier
+abbrev pub moment_told : ℤ → List ℕ → MomentTold
+moment_told now text = moment_by now (instant_of text)
