@@ -19,15 +19,18 @@ use Rattle.series_id.specs.declared.keys.KeyError.TheVariants.{NoRouting, KeyToo
 use Rattle.stream_catalog.specs.Laws.{IsShut, ShowsPuts, FindsPlace}
 use Rattle.stream_catalog.specs.Lists.{with_found, stream_named, index_named}
 use Rattle.stream_catalog.specs.Plain.{PlainIndex, PlainStream, PlainCatalog, facts_of}
-use Rattle.stream_catalog.specs.Puts.{is_full, member_at}
+use Rattle.stream_catalog.specs.Puts.{is_full, member_at, picked_by}
 use Rattle.stream_catalog.specs.Ways.{shown_by, plain_way, seen_way, see_index, see_catalog}
+use Rattle.stream_catalog.specs.declared.answers.PickError.{PickError}
+use Rattle.stream_catalog.specs.declared.answers.PickError.TheVariants.{NoWindow, Blocked}
 use Rattle.synthetic_source.specs.Document.{document_cells}
 use Rattle.synthetic_source.specs.Faults.{time_fault, time_of}
 use Rattle.synthetic_source.specs.declared.errors.DocKind.{DocKind}
 use Rattle.time_text.specs.declared.intervals.Interval.{Interval}
-use Rattle.tsds_service.specs.Bulk.{Outcome, taken, barred, by_place, by_key, by_cells, by_index, by_window, by_time, by_stream, by_action, item_outcome, after_outcome, after_item, outcomes_of, after_items}
+use Rattle.tsds_service.specs.Bulk.{Outcome, taken, barred, by_place, by_key, by_cells, by_index, by_pick, by_time, by_stream, by_action, item_outcome, after_outcome, after_item, outcomes_of, after_items}
 use Rattle.tsds_service.specs.Causes.{ItemCause, conflict, full, blocked, outside, no_stream, no_object}
 use Rattle.tsds_service.proofs.CatalogLaws.{CatalogLaws}
+use Rattle.tsds_service.proofs.PickLemmas.{picked_open}
 
 -- ---- look-ups in lists of indices
 
@@ -80,43 +83,39 @@ module _ (laws : CatalogLaws) where
   raw_of None shut is takes = refl
   raw_of (Some by) shut is takes = absurd (both_ways shut takes is)
 
-  index-see : (n : List ℕ) (i : PlainIndex) (time : ℤ) (d : Data) → ShowsPuts i → by_index n (see_index i) time d ≡ by_index n i time d
-  index-see n i time d shows = by_test i.facts.blocked refl
-    where
-      by_test : (b : Bool) → i.facts.blocked ≡ b → (if b then barred (blocked n) else by_cells n (see_index i) time (document_cells i.facts.mapping.schema i.facts.mapping.strict d))
-          ≡ (if b then barred (blocked n) else by_cells n i time (document_cells i.facts.mapping.schema i.facts.mapping.strict d))
-      by_test true is = refl
-      by_test false is = cells-see n i time (document_cells i.facts.mapping.schema i.facts.mapping.strict d) (raw_of i.facts.interval i.facts.blocked shows.shut is)
+  index-see : (n : List ℕ) (i : PlainIndex) (time : ℤ) (d : Data) → ShowsPuts i → i.facts.blocked ≡ false → by_index n (see_index i) time d ≡ by_index n i time d
+  index-see n i time d shows takes = cells-see n i time (document_cells i.facts.mapping.schema i.facts.mapping.strict d) (raw_of i.facts.interval i.facts.blocked shows.shut takes)
 
   -- ---- an item
 
   module _ (c : PlainCatalog) (shows : Each ShowsPuts c.indices) where
-    window-see : (time : ℤ) (d : Data) (member : Option (List ℕ)) → by_window (see_catalog c) time d member ≡ by_window c time d member
-    window-see time d None = refl
-    window-see time d (Some n) =
+    pick-see : (s : PlainStream) (time : ℤ) (d : Data) (pick : Result (List ℕ) PickError) → picked_by (facts_of c) s time ≡ pick → by_pick (see_catalog c) s time d pick ≡ by_pick c s time d pick
+    pick-see s time d (Err NoWindow) picked = refl
+    pick-see s time d (Err Blocked) picked = ap (λ f. barred (blocked (unwrap_or (member_at f time s) []))) (laws.facts c)
+    pick-see s time d (Ok n) picked =
         ap (λ o. with_found o (barred (outside time)) (λ i. by_index n i time d)) (laws.lookups c n) ∙ by_found (index_named n c.indices) refl
       where
         by_found : (o : Option PlainIndex) → index_named n c.indices ≡ o →
             with_found (option_map see_index o) (barred (outside time)) (λ i. by_index n i time d) ≡ with_found o (barred (outside time)) (λ i. by_index n i time d)
         by_found None found = refl
-        by_found (Some i) found = index-see n i time d (each_named ShowsPuts n c.indices i found shows)
+        by_found (Some i) found = index-see n i time d (each_named ShowsPuts n c.indices i found shows) (picked_open c s time n i picked found)
 
     time-see : (s : PlainStream) (d : Data) (fault : Option DocKind) →
-        by_time fault (unwrap_or (time_of d) (pos 0)) (λ time. by_window (see_catalog c) time d (member_at (facts_of (see_catalog c)) time s))
-        ≡ by_time fault (unwrap_or (time_of d) (pos 0)) (λ time. by_window c time d (member_at (facts_of c) time s))
+        by_time fault (unwrap_or (time_of d) (pos 0)) (λ time. by_pick (see_catalog c) s time d (picked_by (facts_of (see_catalog c)) s time))
+        ≡ by_time fault (unwrap_or (time_of d) (pos 0)) (λ time. by_pick c s time d (picked_by (facts_of c) s time))
     time-see s d (Some kind) = refl
     time-see s d None =
         let time = unwrap_or (time_of d) (pos 0) in
-        ap (λ f. by_window (see_catalog c) time d (member_at f time s)) (laws.facts c) ∙ window-see time d (member_at (facts_of c) time s)
+        ap (λ f. by_pick (see_catalog c) s time d (picked_by f s time)) (laws.facts c) ∙ pick-see s time d (picked_by (facts_of c) s time) refl
 
     stream-see : (name : List ℕ) (source : Option (List ℕ)) → by_stream (see_catalog c) name source ≡ by_stream c name source
     stream-see name source = by_found (stream_named name c.streams) (option_and_then object_of source)
       where
         by_found : (o : Option PlainStream) (tree : Option Data) →
             with_found o (barred (no_stream name)) (λ s. with_found tree (barred no_object) (λ d.
-            by_time (time_fault d) (unwrap_or (time_of d) (pos 0)) (λ time. by_window (see_catalog c) time d (member_at (facts_of (see_catalog c)) time s))))
+            by_time (time_fault d) (unwrap_or (time_of d) (pos 0)) (λ time. by_pick (see_catalog c) s time d (picked_by (facts_of (see_catalog c)) s time))))
             ≡ with_found o (barred (no_stream name)) (λ s. with_found tree (barred no_object) (λ d.
-            by_time (time_fault d) (unwrap_or (time_of d) (pos 0)) (λ time. by_window c time d (member_at (facts_of c) time s))))
+            by_time (time_fault d) (unwrap_or (time_of d) (pos 0)) (λ time. by_pick c s time d (picked_by (facts_of c) s time))))
         by_found None tree = refl
         by_found (Some s) None = refl
         by_found (Some s) (Some d) = time-see s d (time_fault d)
@@ -155,31 +154,25 @@ module _ (laws : CatalogLaws) where
     cells_found m i time (Ok cells) found takes is = key_found m i time cells (keyed i.facts.mapping.schema cells) found takes is
     cells_found m i time (Err fault) found takes is = absurd (barred_not is)
 
-    index_found : (m : List ℕ) (i : PlainIndex) (time : ℤ) (d : Data) → index_named m c.indices ≡ Some i → by_index m i time d ≡ taken n row → FindsPlace c n row
-    index_found m i time d found is = by_test i.facts.blocked refl is
-      where
-        by_test : (b : Bool) → i.facts.blocked ≡ b → (if b then barred (blocked m) else by_cells m i time (document_cells i.facts.mapping.schema i.facts.mapping.strict d)) ≡ taken n row → FindsPlace c n row
-        by_test true takes is = absurd (barred_not is)
-        by_test false takes is = cells_found m i time (document_cells i.facts.mapping.schema i.facts.mapping.strict d) found takes is
-
-    window_found : (time : ℤ) (d : Data) (member : Option (List ℕ)) → by_window c time d member ≡ taken n row → FindsPlace c n row
-    window_found time d None is = absurd (barred_not is)
-    window_found time d (Some m) is = by_found (index_named m c.indices) refl is
+    pick_found : (s : PlainStream) (time : ℤ) (d : Data) (pick : Result (List ℕ) PickError) → picked_by (facts_of c) s time ≡ pick → by_pick c s time d pick ≡ taken n row → FindsPlace c n row
+    pick_found s time d (Err NoWindow) picked is = absurd (barred_not is)
+    pick_found s time d (Err Blocked) picked is = absurd (barred_not is)
+    pick_found s time d (Ok m) picked is = by_found (index_named m c.indices) refl is
       where
         by_found : (o : Option PlainIndex) → index_named m c.indices ≡ o → with_found o (barred (outside time)) (λ i. by_index m i time d) ≡ taken n row → FindsPlace c n row
         by_found None found is = absurd (barred_not is)
-        by_found (Some i) found is = index_found m i time d found is
+        by_found (Some i) found is = cells_found m i time (document_cells i.facts.mapping.schema i.facts.mapping.strict d) found (picked_open c s time m i picked found) is
 
     stream_found : (name : List ℕ) (source : Option (List ℕ)) → by_stream c name source ≡ taken n row → FindsPlace c n row
     stream_found name source is = by_found (stream_named name c.streams) (option_and_then object_of source) is
       where
-        by_fault : (s : PlainStream) (d : Data) (fault : Option DocKind) → by_time fault (unwrap_or (time_of d) (pos 0)) (λ time. by_window c time d (member_at (facts_of c) time s)) ≡ taken n row → FindsPlace c n row
+        by_fault : (s : PlainStream) (d : Data) (fault : Option DocKind) → by_time fault (unwrap_or (time_of d) (pos 0)) (λ time. by_pick c s time d (picked_by (facts_of c) s time)) ≡ taken n row → FindsPlace c n row
         by_fault s d (Some kind) is = absurd (barred_not is)
-        by_fault s d None is = window_found (unwrap_or (time_of d) (pos 0)) d (member_at (facts_of c) (unwrap_or (time_of d) (pos 0)) s) is
+        by_fault s d None is = pick_found s (unwrap_or (time_of d) (pos 0)) d (picked_by (facts_of c) s (unwrap_or (time_of d) (pos 0))) refl is
 
         by_found : (o : Option PlainStream) (tree : Option Data) →
             with_found o (barred (no_stream name)) (λ s. with_found tree (barred no_object) (λ d.
-            by_time (time_fault d) (unwrap_or (time_of d) (pos 0)) (λ time. by_window c time d (member_at (facts_of c) time s)))) ≡ taken n row → FindsPlace c n row
+            by_time (time_fault d) (unwrap_or (time_of d) (pos 0)) (λ time. by_pick c s time d (picked_by (facts_of c) s time)))) ≡ taken n row → FindsPlace c n row
         by_found None tree is = absurd (barred_not is)
         by_found (Some s) None is = absurd (barred_not is)
         by_found (Some s) (Some d) is = by_fault s d (time_fault d) is

@@ -1,5 +1,6 @@
 mod CatalogLaws
 mod SampleLemmas
+mod PickLemmas
 mod ItemLemmas
 mod StepLemmas
 mod MachineLemmas

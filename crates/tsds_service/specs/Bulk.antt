@@ -18,8 +18,10 @@ use Rattle.series_id.specs.declared.keys.KeyError.{KeyError}
 use Rattle.series_id.specs.declared.keys.KeyError.TheVariants.{NoRouting, KeyTooLong, NoMemory}
 use Rattle.stream_catalog.specs.Lists.{with_found, stream_named, index_named}
 use Rattle.stream_catalog.specs.Plain.{PlainIndex, PlainStream, PlainCatalog, facts_of}
-use Rattle.stream_catalog.specs.Puts.{is_full, member_at, put_into}
+use Rattle.stream_catalog.specs.Puts.{is_full, member_at, picked_by, put_into}
 use Rattle.stream_catalog.specs.Ways.{Way}
+use Rattle.stream_catalog.specs.declared.answers.PickError.{PickError}
+use Rattle.stream_catalog.specs.declared.answers.PickError.TheVariants.{NoWindow, Blocked}
 use Rattle.synthetic_source.specs.Document.{document_cells}
 use Rattle.synthetic_source.specs.Faults.{time_fault, time_of}
 use Rattle.synthetic_source.specs.declared.errors.DocKind.{DocKind}
@@ -51,14 +53,15 @@ abbrev pub by_cells : List ℕ → PlainIndex → ℤ → Result (List Cell) (Do
 by_cells n i time (Ok cells) = by_key n i time cells (keyed i.facts.mapping.schema cells)
 by_cells n i time (Err fault) = barred (bad_document fault.0 fault.1)
 
--- the index takes documents
+-- what the index's mapping makes of the document
 abbrev pub by_index : List ℕ → PlainIndex → ℤ → Data → Outcome
-by_index n i time d = if i.facts.blocked then barred (blocked n) else by_cells n i time (document_cells i.facts.mapping.schema i.facts.mapping.strict d)
+by_index n i time d = by_cells n i time (document_cells i.facts.mapping.schema i.facts.mapping.strict d)
 
--- a member of the stream has the time in its window
-abbrev pub by_window : PlainCatalog → ℤ → Data → Option (List ℕ) → Outcome
-by_window c time d member =
-    with_found member (barred (outside time)) (λ n. with_found (index_named n c.indices) (barred (outside time)) (λ i. by_index n i time d))
+-- a member of the stream has the time in its window, and takes documents; a blocked one is told by its name
+abbrev pub by_pick : PlainCatalog → PlainStream → ℤ → Data → Result (List ℕ) PickError → Outcome
+by_pick c s time d (Ok n) = with_found (index_named n c.indices) (barred (outside time)) (λ i. by_index n i time d)
+by_pick c s time d (Err NoWindow) = barred (outside time)
+by_pick c s time d (Err Blocked) = barred (blocked (unwrap_or (member_at (facts_of c) time s) []))
 
 -- the document has a time
 abbrev pub by_time : Option DocKind → ℤ → (ℤ → Outcome) → Outcome
@@ -67,7 +70,7 @@ by_time None time later = later time
 
 -- what comes of a document of a stream
 abbrev pub by_document : PlainCatalog → PlainStream → Data → Outcome
-by_document c s d = by_time (time_fault d) (unwrap_or (time_of d) (pos 0)) (λ time. by_window c time d (member_at (facts_of c) time s))
+by_document c s d = by_time (time_fault d) (unwrap_or (time_of d) (pos 0)) (λ time. by_pick c s time d (picked_by (facts_of c) s time))
 
 -- a stream has the name, and the source is an object
 abbrev pub by_stream : PlainCatalog → List ℕ → Option (List ℕ) → Outcome
