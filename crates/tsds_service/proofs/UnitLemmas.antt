@@ -1,12 +1,12 @@
 -- Units, and what a machine begins as.
-use Rattle.std.specs.Prelude.{◌≡◌, ℕ, zero, suc, Bool}
+use Rattle.std.specs.Prelude.{zero, suc, Bool}
 use Rattle.std.proofs.Common.{refl, ap, ◌∙◌, sym, subst, arith}
 use Rattle.stream_catalog.specs.Laws.{UnitsKeepSound as CatalogUnitsKeepSound}
 use Rattle.stream_catalog.specs.Plain.{facts_of}
 use Rattle.stream_catalog.specs.Sound.{AreFactsSound}
 use Rattle.stream_catalog.specs.Ways.{plain_way, seen_way}
 use Rattle.tsds_service.specs.Laws.{SeenAgain, EmptyIsSeen, UnitsRefine, UnitsStand, UnitsKeepSound, UnitsKeepSeen, ManyUnitsKeepSound, ManyUnitsKeepSeen, ManyUnitsRefine, ManyUnitsStand}
-use Rattle.tsds_service.specs.Machine.{Machine, empty_machine, unit, units, IsSeen}
+use Rattle.tsds_service.specs.Machine.{empty_machine, unit, units, IsSeen}
 
 -- ---- the empty machine
 
