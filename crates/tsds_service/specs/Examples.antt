@@ -1,6 +1,7 @@
 -- The definitions on a small machine, worked out: a stream of two members, and two rows in the first of them.
 use Rattle.std.specs.Prelude.{Err, map}
 use Rattle.std.proofs.Common.{◌≡◌, Bool, ℕ, pos, List, [], ◌∷◌, Option, Some, None, true, false, refl, arith, codes}
+use Rattle.std.proofs.lemmas.Slice.Eq.{bytes_eq-Decides}
 use Rattle.reply_json.specs.Trees as tree
 use Rattle.reply_json.specs.declared.out.Out.{Flag, Num, Word as Quoted, List as Listed, Object}
 use Rattle.bulk_json.specs.declared.action.Action.TheVariants.{Create, Index}
@@ -352,6 +353,9 @@ pub found_tree : document_reply (first_facts false) (codes "x") (row_at 97 1500 
       ∷ tree.member (codes "_source") (out_of (norm schema (row_at 97 1500 7))) ∷ []);
 }
 found_tree = refl
+
+pub found_document : get_document plain_way (machine false None []) (codes "a") (id_of (key 97) (pos 1500)) ≡ told (machine false None []) (document_reply (first_facts false) (id_of (key 97) (pos 1500)) (row_at 97 1500 7))
+found_document = rw ((bytes_eq-Decides (id_of (key 97) (pos 1500)) (id_of (key 97) (pos 1500))).1 refl) refl
 
 pub missing_tree : no_document (codes "i") (codes "x") ≡ record {
   status = 404;
