@@ -18,7 +18,7 @@ use Rattle.lifecycle_swap.specs.declared.lifecycles.Lifecycle.{Lifecycle}
 use Rattle.ts_mapping.specs.declared.templates.Mapping.{Mapping}
 use Rattle.ts_mapping.specs.declared.templates.Template.{Template}
 use Rattle.stream_catalog.specs.declared.answers.CatalogError.TheVariants.{IsWriteIndex, NotBlocked, NotMember, NameTaken}
-use Rattle.stream_catalog.specs.declared.answers.PickError.TheVariants.{NoWindow}
+use Rattle.stream_catalog.specs.declared.answers.PickError.TheVariants.{NoWindow, Blocked}
 use Rattle.stream_catalog.specs.declared.answers.Move.TheVariants.{Remove, Add}
 use Rattle.stream_catalog.specs.declared.facts.HeldIndex.{HeldIndex}
 use Rattle.stream_catalog.specs.declared.facts.TaskFacts.{TaskFacts}
@@ -108,6 +108,9 @@ picked = refl
 
 pub not_picked : picked_by (facts_of (two false None [])) (stream None) (pos 20000) ≡ Err NoWindow
 not_picked = refl
+
+pub picked_blocked : picked_by (facts_of (two true None [])) (stream None) (pos 9999) ≡ Err Blocked
+picked_blocked = refl
 
 -- refusals of folds, in their order
 pub fold_of_open : downsample_refusal (facts_of (two false None [])) (codes "a") (codes "c") second ≡ Some NotBlocked
