@@ -1,28 +1,31 @@
 -- Folds of rows that lie apart: of other series, or of other buckets.
-use Rattle.std.specs.Prelude.{length, ◌≡◌, ℕ, ◌++◌, not, Bool, true, false, cond, List, [], ◌∷◌, map, filter, if◌then◌else◌}
+use Rattle.std.specs.Prelude.{length, ◌≡◌, ◌||◌, ℕ, ◌++◌, not, Bool, true, false, cond, List, [], ◌∷◌, map, filter, if◌then◌else◌}
+use Rattle.std.specs.List.{list_any}
 use Rattle.std.specs.Ordering.{is_le}
 use Rattle.row_cells.specs.Order.{row_cmp}
-use Rattle.std.proofs.Common.{refl, ap, ◌∙◌, sym, subst, inl}
+use Rattle.std.proofs.Common.{refl, ap, ◌∙◌, sym, subst, inl, append-nil}
 use Rattle.std.proofs.lemmas.Bool.{false_from_ne_true}
+use Rattle.std.proofs.lemmas.List.Elements.{filter-append}
 use Rattle.row_cells.specs.declared.schemas.Schema.{Schema}
 use Rattle.row_cells.specs.declared.rows.Row.{Row}
 use Rattle.row_cells.specs.Dimensions.{IsBefore}
-use Rattle.row_cells.specs.Each.{Each, Each-weaker, filter_none}
+use Rattle.row_cells.specs.Each.{Each, Each-all, Each-both, Each-weaker, filter_all, filter_none}
 use Rattle.row_cells.specs.Merging.{merge_of_rows}
 use Rattle.row_cells.specs.MergeLaws.{merge_of_rows-fold_of_row_left, merge_of_rows-fold_of_row_right}
 use Rattle.row_cells.specs.OrderLaws.{IsUpTo, insert_first, upto_from, in_row_order-each}
-use Rattle.row_cells.specs.PlaceLaws.{each_append}
+use Rattle.row_cells.specs.PlaceLaws.{each_append, split_stays}
 use Rattle.row_cells.specs.RowLists.{insert_row, in_row_order}
 use Rattle.row_cells.specs.WidenLaws.{apart}
 use Rattle.time_text.specs.Bucket.{bucket_start}
-use Rattle.downsample_fold.specs.Places.{Place, place_of, same_place, places, rows_at}
-use Rattle.downsample_fold.specs.Direct.{fold_at}
+use Rattle.downsample_fold.specs.Places.{Place, own_place, place_of, same_place, places, rows_at}
+use Rattle.downsample_fold.specs.Direct.{down, fold_at}
 use Rattle.downsample_fold.specs.DirectLaws.{same_place-refl, rows_eq, others_stay, other_places, other_place-sym, places-each}
-use Rattle.downsample_fold.specs.FoldLaws.{down-joined}
+use Rattle.downsample_fold.specs.FoldLaws.{down-joined, folds_in_order}
 use Rattle.downsample_fold.specs.Joined.{placed, put, joined, are_at_one}
 use Rattle.downsample_fold.specs.JoinedLaws.{put_passes, joined-places, at_one_parts}
-use Rattle.downsample_fold.specs.Laws.{BucketInFront, FoldsJoinApart, MergesAreFolds, SeriesApart}
+use Rattle.downsample_fold.specs.Laws.{BucketInFront, FoldsJoinApart, FoldsJoinPlaces, MergesAreFolds, PlacesApart, SeriesApart}
 use Rattle.downsample_fold.specs.RowLaws.{fold_at-one, fold_at-more}
+use Rattle.downsample_fold.specs.SeriesLaws.{folds_some_places}
 
 -- ---- series apart
 
@@ -76,6 +79,62 @@ folds_join_apart schema rows others n cells_r cells_o before some =
   where
     both : {us vs ws zs : List Row} → us ≡ vs → ws ≡ zs → us ++ ws ≡ vs ++ zs
     both p q = cc
+
+-- ---- places apart
+
+module _ (n : ℕ) where
+  -- whether a place is that of one of these rows
+  abbrev has_row_at : List Row → Place → Bool
+  has_row_at rows place = list_any (λ row. same_place (place_of n row) place) rows
+
+  own_rows : (rows : List Row) → Each (λ row. has_row_at rows (place_of n row) ≡ true) rows
+  own_rows [] = tt
+  own_rows (first ∷ rest) = (
+    ap (λ b. b || has_row_at rest (place_of n first)) (same_place-refl (place_of n first)),
+    Each-weaker (λ row. has_row_at rest (place_of n row) ≡ true) (λ row. has_row_at (first ∷ rest) (place_of n row) ≡ true)
+        (λ row is. ap (λ b. same_place (place_of n first) (place_of n row) || b) is ∙ or_true (same_place (place_of n first) (place_of n row))) rest (own_rows rest),
+  )
+    where
+      or_true : (b : Bool) → (b || true) ≡ true
+      or_true true = refl
+      or_true false = refl
+
+  rows_elsewhere : (rows others : List Row) → PlacesApart n rows others → Each (λ other. has_row_at rows (place_of n other) ≡ false) others
+  rows_elsewhere [] others apart_from = Each-all (λ other. has_row_at [] (place_of n other) ≡ false) (λ other. refl) others
+  rows_elsewhere (first ∷ rest) others apart_from =
+      Each-both (λ other. same_place (place_of n first) (place_of n other) ≡ false) (λ other. has_row_at rest (place_of n other) ≡ false) (λ other. has_row_at (first ∷ rest) (place_of n other) ≡ false)
+      (λ other here later. ap (λ b. b || has_row_at rest (place_of n other)) here ∙ later) others apart_from.0 (rows_elsewhere rest others apart_from.1)
+
+  rows_joined : {us vs ws zs : List Row} → us ≡ vs → ws ≡ zs → us ++ ws ≡ vs ++ zs
+  rows_joined p q = cc
+
+  -- of both lists, the rows at places of the first are the first
+  first_rows : (rows others : List Row) → PlacesApart n rows others → filter (λ row. has_row_at rows (place_of n row)) (rows ++ others) ≡ rows
+  first_rows rows others apart_from =
+      let test : Row → Bool = λ row. has_row_at rows (place_of n row) in
+      filter-append test rows others
+      ∙ (rows_joined (filter_all test rows (own_rows rows)) (filter_none test others (rows_elsewhere rows others apart_from))
+      ∙ append-nil rows)
+
+  -- and those at other places the second
+  second_rows : (rows others : List Row) → PlacesApart n rows others → filter (λ row. not (has_row_at rows (place_of n row))) (rows ++ others) ≡ others
+  second_rows rows others apart_from =
+      let test : Row → Bool = λ row. has_row_at rows (place_of n row) in
+      let passed : Row → Bool = λ row. not (test row) in
+      filter-append passed rows others
+      ∙ rows_joined
+      (filter_none passed rows (Each-weaker (λ row. test row ≡ true) (λ row. passed row ≡ false) (λ row is. ap not is) rows (own_rows rows)))
+      (filter_all passed others (Each-weaker (λ row. test row ≡ false) (λ row. passed row ≡ true) (λ row is. ap not is) others (rows_elsewhere rows others apart_from)))
+
+pub folds_join_places : FoldsJoinPlaces
+folds_join_places schema rows others n cells_r cells_o apart_from some =
+    let all = down schema (rows ++ others) n in
+    let chosen : Place → Bool = has_row_at n rows in
+    let first : down schema rows n ≡ filter (λ row. chosen (own_place row)) all = sym (ap (λ rs. down schema rs n) (first_rows n rows others apart_from)) ∙ folds_some_places schema (rows ++ others) n chosen in
+    let second : down schema others n ≡ filter (λ row. not (chosen (own_place row))) all = sym (ap (λ rs. down schema rs n) (second_rows n rows others apart_from)) ∙ folds_some_places schema (rows ++ others) n (λ p. not (chosen p)) in
+    sym (ap in_row_order (rows_joined n first second)
+    ∙ split_stays (λ row. chosen (own_place row)) all
+    (folds_in_order schema (rows ++ others) n (each_append (λ row. length row.cells ≡ length schema.fields) rows others cells_r cells_o) some))
 
 -- ---- one bucket and the rest
 

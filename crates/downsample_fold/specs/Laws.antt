@@ -122,6 +122,15 @@ abbrev pub FoldsJoinApart : Type 0
 FoldsJoinApart = (schema : Schema) (rows others : List Row) (n : ℕ) → HaveCells schema rows → HaveCells schema others → SeriesApart rows others → 0 < n →
     down schema (rows ++ others) n ≡ down schema rows n ++ down schema others n
 
+-- no row of one list has the series and bucket of a row of the other
+abbrev pub PlacesApart : ℕ → List Row → List Row → Type 0
+PlacesApart n rows others = Each (λ row. Each (λ other. same_place (place_of n row) (place_of n other) ≡ false) others) rows
+
+-- the fold of rows that have no place in common with others, and of the others, is their folds put in row order
+abbrev pub FoldsJoinPlaces : Type 0
+FoldsJoinPlaces = (schema : Schema) (rows others : List Row) (n : ℕ) → HaveCells schema rows → HaveCells schema others → PlacesApart n rows others → 0 < n →
+    down schema (rows ++ others) n ≡ in_row_order (down schema rows n ++ down schema others n)
+
 -- folds have the keys of an index, and short lists, so they may stand in one
 abbrev pub FoldsAreRows : Type 0
 FoldsAreRows = (schema : Schema) (rows : List Row) (n : ℕ) → IsMapped schema → 0 < n → Each (IsRowOf schema) rows → documents rows ≤ most_documents →

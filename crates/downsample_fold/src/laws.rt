@@ -1,7 +1,7 @@
 //! What holds of the direct fold, for the layers that fold series by series and in rounds.
 ghost use Rattle.downsample_fold.specs.Laws.{FoldsCompose, FoldsSorted, FoldsAnyOrder, FoldsSomeSeries, FoldsJoinSeries, FoldsJoinFirst, FoldsJoinNext, SeriesAscend};
 ghost use Rattle.downsample_fold.specs.Laws.{FoldsInOrder, FoldsAtStarts, FoldsFit, FoldsCountAll};
-ghost use Rattle.downsample_fold.specs.Laws.{BucketInFront, FoldsAnyForm, FoldsAreRows, FoldsJoinApart, FoldsKeepDimensions, FoldsKeepSeries, FoldsSettle, FoldsSomePlaces, FoldsTested, FoldsWiden, MergesAreFolds, RowsJoinSeries};
+ghost use Rattle.downsample_fold.specs.Laws.{BucketInFront, FoldsAnyForm, FoldsAreRows, FoldsJoinApart, FoldsJoinPlaces, FoldsKeepDimensions, FoldsKeepSeries, FoldsSettle, FoldsSomePlaces, FoldsTested, FoldsWiden, MergesAreFolds, RowsJoinSeries};
 ghost use Rattle.downsample_fold.specs.Measures.{CountsAreFolded, FoldsKeepRises, GaugesAreFolded, RisesAreFolded};
 ghost use Rattle.downsample_fold.specs.Totals.{FoldsKeepTotals};
 
@@ -80,9 +80,11 @@ pub fn folds_keep_series()
     ensures rows { RowsJoinSeries }
 {}
 
-/// Rows that lie apart fold apart: series that stand before others, and one bucket in front of other places.
+/// Rows that lie apart fold apart: series that stand before others, lists without a series and bucket in common, as those of
+/// two shards or of two segments of other buckets, and one bucket in front of other places.
 pub fn folds_join_apart()
     ensures series { FoldsJoinApart }
+    ensures places { FoldsJoinPlaces }
     ensures bucket { BucketInFront }
 {}
 

@@ -1,8 +1,10 @@
 -- Places of rows, rows put in order behind others, and lists of rows joined in any spread.
-use Rattle.std.specs.Prelude.{◌≡◌, ◌⊎◌, ◌↔◌, ℕ, ℤ, suc, ◌+◌, ◌&&◌, ◌||◌, Bool, true, false, List, [], ◌∷◌, ◌++◌, length, if◌then◌else◌}
+use Rattle.std.specs.Prelude.{◌≡◌, ◌⊎◌, ◌↔◌, ℕ, ℤ, suc, ◌+◌, ◌&&◌, ◌||◌, not, cond, Bool, true, false, List, [], ◌∷◌, ◌++◌, length, filter, if◌then◌else◌}
 use Rattle.std.specs.List.{list_any}
+use Rattle.std.specs.Cmp.{tied_itself}
 use Rattle.std.specs.Str.{bytes_eq}
-use Rattle.std.specs.Ordering.{is_le, is_gt, int_eq, ordering_reverse}
+use Rattle.std.specs.Cmp.Lexicographic.{slice_cmp}
+use Rattle.std.specs.Ordering.{is_le, is_gt, int_cmp, int_eq, nat_cmp, ordering_reverse, ordering_then}
 use Rattle.std.specs.declared.cmp.Ordering.{Ordering}
 use Rattle.std.specs.declared.cmp.Ordering.TheVariants.{Less, Equal, Greater}
 use Rattle.std.proofs.Common.{refl, ap, ◌∙◌, sym, inl, inr, arith, add_assoc}
@@ -10,10 +12,10 @@ use Rattle.std.proofs.lemmas.Bool.{and_from, both_ways, cond-true, cond-false}
 use Rattle.std.proofs.lemmas.Bool.Decides.{Decides-int_eq}
 use Rattle.std.proofs.lemmas.Slice.Eq.{bytes_eq-Decides}
 use Rattle.row_cells.specs.declared.rows.Row.{Row}
-use Rattle.row_cells.specs.Each.{Each, Each-weaker}
+use Rattle.row_cells.specs.Each.{Each, Each-filter, Each-weaker}
 use Rattle.row_cells.specs.Order.{row_cmp}
-use Rattle.row_cells.specs.RowLists.{AreInRowOrder, AreDistinct, IsAmong, has_place, insert_row, in_row_order, documents}
-use Rattle.row_cells.specs.OrderLaws.{IsUpTo, row_cmp_total, tied_rows, in_order-ascends, in_row_order-ascends, in_row_order-same, upto_chain, upto_of_le}
+use Rattle.row_cells.specs.RowLists.{AreApart, AreInRowOrder, AreDistinct, IsAmong, has_place, insert_row, in_row_order, documents}
+use Rattle.row_cells.specs.OrderLaws.{IsUpTo, insert_first, row_cmp_total, tied_rows, in_order-ascends, in_row_order-ascends, in_row_order-same, upto_chain, upto_of_le}
 use Rattle.row_cells.specs.SetLaws.{among_sorted, sorted_is, sorted_distinct}
 
 -- rows in row order stay as they are
@@ -142,6 +144,74 @@ insert_front x (first ∷ rest) ys = by_test (is_le (row_cmp x first)) refl (ins
 pub in_row_order-append_left : (xs ys : List Row) → in_row_order (in_row_order xs ++ ys) ≡ in_row_order (xs ++ ys)
 in_row_order-append_left [] ys = refl
 in_row_order-append_left (x ∷ xs) ys = insert_front x (in_row_order xs) ys ∙ ap (insert_row x) (in_row_order-append_left xs ys)
+
+-- ---- rows apart
+
+-- rows of one series and time are not told apart by the order
+pub tied_from : (a b : Row) → a.key ≡ b.key → a.time ≡ b.time → row_cmp a b ≡ Equal
+tied_from a b same_key same_time =
+    ap (λ k. ordering_then (slice_cmp nat_cmp a.key k) (int_cmp b.time a.time)) (sym same_key)
+    ∙ (ap (λ t. ordering_then (slice_cmp nat_cmp a.key a.key) (int_cmp t a.time)) (sym same_time)
+    ∙ tied_itself row_cmp_total a)
+
+abbrev IsUntied : Row → Row → Type 0
+IsUntied row other = row_cmp row other ≡ Equal → ⊥
+
+abbrev IsElsewhere : Row → Row → Type 0
+IsElsewhere row other = row.key ≡ other.key → row.time ≡ other.time → ⊥
+
+untied_elsewhere : (row other : Row) → IsUntied row other → IsElsewhere row other
+untied_elsewhere row other apart same_key same_time = apart (tied_from row other same_key same_time)
+
+elsewhere_untied : (row other : Row) → IsElsewhere row other → IsUntied row other
+elsewhere_untied row other apart tied = let same = tied_rows row other tied in apart same.0 same.1
+
+-- rows are apart exactly where no two have a key and a time in common
+pub apart_by_places : (rows others : List Row) → AreApart rows others ↔ Each (λ row. Each (λ other. row.key ≡ other.key → row.time ≡ other.time → ⊥) others) rows
+apart_by_places rows others = (
+  Each-weaker (λ row. Each (IsUntied row) others) (λ row. Each (IsElsewhere row) others) (λ row each. Each-weaker (IsUntied row) (IsElsewhere row) (untied_elsewhere row) others each) rows,
+  Each-weaker (λ row. Each (IsElsewhere row) others) (λ row. Each (IsUntied row) others) (λ row each. Each-weaker (IsElsewhere row) (IsUntied row) (elsewhere_untied row) others each) rows,
+)
+
+-- joined lists are distinct exactly where each is, and they are apart
+pub distinct_append : (xs ys : List Row) → AreDistinct (xs ++ ys) ↔ (AreDistinct xs × AreDistinct ys × AreApart xs ys)
+distinct_append [] ys = (λ distinct. (tt, distinct, tt), λ parts. parts.1)
+distinct_append (x ∷ xs) ys =
+    let later = distinct_append xs ys in (
+      λ distinct.
+          let first = each_parts (λ other. row_cmp x other ≡ Equal → ⊥) xs ys distinct.0 in
+          let rest = later.0 distinct.1 in
+          ((first.0, rest.0), rest.1, (first.1, rest.2)),
+      λ parts.
+          (each_append (λ other. row_cmp x other ≡ Equal → ⊥) xs ys parts.0.0 parts.2.0, later.1 (parts.0.1, parts.1, parts.2.1)),
+    )
+
+-- ---- rows cut by a test
+
+-- a row that stands before others is put in order in front of them
+insert_behind : (row : Row) (xs ys : List Row) → Each (λ x. row_cmp row x ≡ Less) xs → in_row_order (xs ++ row ∷ ys) ≡ insert_row row (in_row_order (xs ++ ys))
+insert_behind row [] ys before = refl
+insert_behind row (x ∷ xs) ys before =
+    ap (insert_row x) (insert_behind row xs ys before.1)
+    ∙ sym (insert_swap x row (in_row_order (xs ++ ys)) before.0 (ap is_le (row_cmp_total.antisymm x row ∙ ap ordering_reverse before.0)))
+
+-- rows in row order are those that pass a test and those that don't, put in order again
+pub split_stays : (test : Row → Bool) (rows : List Row) → AreInRowOrder rows → in_row_order (filter test rows ++ filter (λ row. not (test row)) rows) ≡ rows
+split_stays test [] order = refl
+split_stays test (row ∷ rows) order = by_test (test row) (split_stays test rows order.1)
+  where
+    taken : List Row
+    taken = filter test rows
+
+    left : List Row
+    left = filter (λ other. not (test other)) rows
+
+    front : insert_row row rows ≡ row ∷ rows
+    front = insert_first row rows (Each-weaker (λ other. row_cmp row other ≡ Less) (IsUpTo row) (λ other before. ap is_gt before) rows order.0)
+
+    by_test : (b : Bool) → in_row_order (taken ++ left) ≡ rows → in_row_order (cond b (row ∷ taken) taken ++ cond (not b) (row ∷ left) left) ≡ row ∷ rows
+    by_test true later = ap (insert_row row) later ∙ front
+    by_test false later = insert_behind row taken left (Each-filter (λ other. row_cmp row other ≡ Less) test rows order.0) ∙ (ap (insert_row row) later ∙ front)
 
 -- ---- a row in a free place
 

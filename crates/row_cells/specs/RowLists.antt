@@ -48,6 +48,10 @@ abbrev pub AreDistinct : List Row → Type 0
 AreDistinct [] = Unit {0}
 AreDistinct (row ∷ rows) = Each (λ other. row_cmp row other ≡ Equal → ⊥) rows × AreDistinct rows
 
+-- no row of one list has the series and time of a row of the other
+abbrev pub AreApart : List Row → List Row → Type 0
+AreApart rows others = Each (λ row. Each (λ other. row_cmp row other ≡ Equal → ⊥) others) rows
+
 -- some row is of this series and time
 abbrev pub has_place : List ℕ → ℤ → List Row → Bool
 has_place key time rows = list_any (λ row. bytes_eq row.key key && int_eq row.time time) rows
