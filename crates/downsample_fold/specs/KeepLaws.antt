@@ -48,7 +48,7 @@ each_among : (P : Row → Type 0) (row : Row) (rows : List Row) → Each P rows 
 each_among P row [] each among = absurd among
 each_among P row (first ∷ rest) each among = elim among [ inl here ↦ subst P here each.0 | inr there ↦ each_among P row rest each.1 there ]
 
-mapped_form : (schema : Schema) → IsMapped schema → IsMapped (folded_form schema)
+pub mapped_form : (schema : Schema) → IsMapped schema → IsMapped (folded_form schema)
 mapped_form schema mapped = record { ascending = mapped.ascending; paths = mapped.paths; routing = mapped.routing }
 
 pub folds_keep_dimensions : FoldsKeepDimensions

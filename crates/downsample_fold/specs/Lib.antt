@@ -19,6 +19,7 @@ pub mod Room
 pub mod RowLaws
 pub mod SeriesLaws
 pub mod SettleLaws
+pub mod TestedLaws
 pub mod TotalLaws
 pub mod Totals
 pub mod WidenDownLaws

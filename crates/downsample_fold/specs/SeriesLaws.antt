@@ -93,7 +93,7 @@ folds_some_places schema rows n chosen =
     ∙ (ap (map (λ p. fold_at schema p (rows_at n p (filter (λ row. chosen (place_of n row)) sorted)))) (places-filter chosen n sorted)
     ∙ map_chosen chosen n schema sorted (places n sorted))
 
-filter_agree : (p q : Row → Bool) (rows : List Row) → Each (λ row. p row ≡ q row) rows → filter p rows ≡ filter q rows
+pub filter_agree : (p q : Row → Bool) (rows : List Row) → Each (λ row. p row ≡ q row) rows → filter p rows ≡ filter q rows
 filter_agree p q [] each = refl
 filter_agree p q (row ∷ rows) each = both each.0 (filter_agree p q rows each.1)
   where

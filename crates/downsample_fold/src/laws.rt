@@ -3,7 +3,7 @@ ghost use Rattle.downsample_fold.specs.Laws.{FoldsCompose, FoldsSorted, FoldsAny
 ghost use Rattle.downsample_fold.specs.Laws.{FoldsInOrder, FoldsAtStarts, FoldsFit, FoldsCountAll};
 ghost use Rattle.downsample_fold.specs.Laws.{BucketInFront, FoldsAnyForm, FoldsAreRows, FoldsJoinApart, FoldsJoinPlaces, FoldsKeepDimensions, FoldsKeepSeries, FoldsSettle, FoldsSomePlaces, FoldsTested, FoldsWiden, MergesAreFolds, RowsJoinSeries};
 ghost use Rattle.downsample_fold.specs.Measures.{CountsAreFolded, FoldsKeepRises, GaugesAreFolded, RisesAreFolded};
-ghost use Rattle.downsample_fold.specs.Totals.{FoldsKeepTotals};
+ghost use Rattle.downsample_fold.specs.Totals.{FoldsKeepDimension, FoldsKeepTested, FoldsKeepTotals, KeysAreFolded};
 
 use fold_law::Fold;
 
@@ -47,6 +47,15 @@ pub fn folds_join_series()
 /// of rows in any rounds of folding a search by whole buckets answers what it would of the rows themselves.
 pub fn folds_keep_totals<F: Fold>()
     ensures { FoldsKeepTotals F.none F.merge }
+{}
+
+/// So it does for each test of rows that is one over the rows of a place and their fold, as that of a query is on dimensions.
+/// Where a value joined with itself stays, as a least or a greatest, what keys tell is summed up so, and over rows of an
+/// index what the cells of a dimension tell.
+pub fn folds_keep_tested<F: Fold>()
+    ensures tested { FoldsKeepTested F.none F.merge }
+    ensures keys { KeysAreFolded F.merge }
+    ensures dimensions { FoldsKeepDimension F.none F.merge }
 {}
 
 /// Such values are the number of documents, a gauge, and the rise of a counter in a schema that rises; so the rise of
