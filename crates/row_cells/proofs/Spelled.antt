@@ -7,6 +7,7 @@ use Rattle.row_cells.specs.declared.scalars.Scalar.{Scalar}
 use Rattle.row_cells.specs.declared.scalars.Scalar.TheVariants.{Whole}
 use Rattle.row_cells.specs.Dimensions.{Dimension, text_bytes, above_least, flag_byte, value_bytes, dimension_bytes, key_bytes, IsKeyValue, IsDimension, IsBefore, AreDimensionsAfter, SpellDimensionsAfter}
 use Rattle.row_cells.specs.KeyLaws.{SameText, text_bytes_read, eight_bytes, text_bytes_injective, dimension_bytes_injective}
+use Rattle.row_cells.specs.Limits.{longest_path}
 
 pub IfSome-map : {A : Type 0} {P Q : A → Type 0} (o : Option A) → ((x : A) → P x → Q x) → IfSome o P → IfSome o Q
 IfSome-map None f h = tt
@@ -49,7 +50,7 @@ pub path_of_dimension : (bytes text tail : List ℕ) (d : Dimension) (rest : Lis
 path_of_dimension bytes text tail d rest begins short is_d same =
     text_bytes_injective d.path text (value_bytes d.value ++ rest) tail (omega (arith, is_d.path_short)) short (sym (append_assoc (text_bytes d.path) (value_bytes d.value) rest) ∙ (sym same ∙ begins))
 
-pub dimension_read : (bytes text tail rest : List ℕ) (value : Scalar) → bytes ≡ text_bytes text ++ tail → 0 < length text → length text ≤ 512 → IsUtf8 text → IsKeyValue value → tail ≡ value_bytes value ++ rest → (dimension : Dimension) × IsDimension dimension × (dimension.path ≡ text) × (bytes ≡ dimension_bytes dimension ++ rest)
+pub dimension_read : (bytes text tail rest : List ℕ) (value : Scalar) → bytes ≡ text_bytes text ++ tail → 0 < length text → length text ≤ longest_path → IsUtf8 text → IsKeyValue value → tail ≡ value_bytes value ++ rest → (dimension : Dimension) × IsDimension dimension × (dimension.path ≡ text) × (bytes ≡ dimension_bytes dimension ++ rest)
 dimension_read bytes text tail rest value begins some short utf8 fits follows =
     (record { path = text; value = value }, record { path_some = some; path_short = short; path_text = utf8; value_fits = fits }, refl, begins ∙ (ap (λ t. text_bytes text ++ t) follows ∙ sym (append_assoc (text_bytes text) (value_bytes value) rest)))
 

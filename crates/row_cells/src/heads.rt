@@ -105,7 +105,7 @@ fn read_value(alloc: Global, bytes: &[u8]) -> Result<Option<Found<'_>>, NoMemory
 
 /// The value of the dimension with this path, where bytes begin with one.
 #[tactic(auto, unfolding(crate::specs::Heads::entry_at))]
-fn read_entry<'a>(
+fn read_value_of<'a>(
     alloc: Global,
     path: &[u8],
     bytes: &'a [u8],
@@ -122,14 +122,16 @@ fn read_entry<'a>(
     Ok(found)
 }
 
-/// A cell for each field: what the dimension of its path has in the key, or none.
+/// A cell for each field, in one walk over the bytes. Where the fields ascend and each path of the key is among them, it is
+/// what the dimension of the field's path has in the key, or none. At a path that is no field's the walk stays, and all
+/// cells from there on are absent.
 pub fn heads_of(alloc: Global, fields: &[Field], key: &[u8]) -> Result<Items<Cell>, NoMemory>
     ensures { IfOk result (λ heads. heads ≡ heads_in fields.now key.now) }
 {
     let mut heads = Vec::with_capacity(alloc, fields.len())?;
     let mut rest = key;
     for field in fields {
-        match read_entry(alloc, field.path.as_bytes(), rest)? {
+        match read_value_of(alloc, field.path.as_bytes(), rest)? {
             Some(found) => {
                 heads.push(Cell::One(found.value))?;
                 rest = found.rest;

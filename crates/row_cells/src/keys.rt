@@ -26,8 +26,8 @@ impl Model for Key {
 impl Key {
     ghost use Rattle.row_cells.specs.Dimensions.{IsKey};
 
-    /// The key of these bytes, or None exactly where they are no key: at most 4,096 bytes that spell one or
-    /// more dimensions, with paths of 1 to 512 bytes of UTF-8 that ascend strictly, and texts of UTF-8.
+    /// The key of these bytes, or None exactly where they are no key: at most `LONGEST_KEY` bytes that spell one or
+    /// more dimensions, with paths of 1 to `LONGEST_PATH` bytes of UTF-8 that ascend strictly, and texts of UTF-8.
     pub fn read(alloc: Global, bytes: &[u8]) -> Result<Option<Key>, NoMemory>
         ensures some { IfOk result (λ found. IfSome found (λ key. (key ≡ bytes.now) × IsKey bytes.now)) }
         ensures none { IfOk result (λ found. IsNone found → IsKey bytes.now → ⊥) }
