@@ -1,9 +1,10 @@
 -- The numbers of intervals.
-use Rattle.std.specs.Prelude.{ℕ, Bool, ◌&&◌, not, ◌==◌, nat_le, List, length, slice_index}
+use Rattle.std.specs.Prelude.{ℕ, Bool, ◌&&◌, not, ◌==◌, nat_le, unsigned_abs, List, length, slice_index}
+use Rattle.time_text.specs.Instant.{last_instant}
 
--- the longest interval, in milliseconds
+-- the longest interval, in milliseconds: as many as the last instant is behind the first
 abbrev pub longest : ℕ
-longest = 253_402_300_799_999
+longest = unsigned_abs last_instant
 
 -- one to fifteen digits without a leading zero; of a list of digits
 abbrev pub is_count : List ℕ → Bool

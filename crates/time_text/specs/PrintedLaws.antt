@@ -14,7 +14,7 @@ use Rattle.jiff_core.specs.Calendar.{days_in_month}
 use Rattle.jiff_core.proofs.CalendarLemmas.{days_in_month_bounds}
 use Rattle.time_text.specs.Shape.{has_shape, number}
 use Rattle.time_text.specs.Day.{day_number, year_of, month_of, day_of_month}
-use Rattle.time_text.specs.Instant.{IsInstant, day_of, clock, clock_of, exact_clock_of, is_fraction, thousandths, offset_of, begins_offset, offset_place, date_time_of, written_of, instant_of}
+use Rattle.time_text.specs.Instant.{IsInstant, last_instant, day_of, clock, clock_of, exact_clock_of, is_fraction, thousandths, offset_of, begins_offset, offset_place, date_time_of, written_of, instant_of}
 use Rattle.time_text.specs.Laws.{PrintedReadsBack, PrintedDatesAreCivil}
 use Rattle.time_text.specs.Printed.{two_digits, three_digits, four_digits, date_text, clock_text, instant_text}
 use Rattle.time_text.specs.DayLaws.{civil_of_day, IsCivilOf}
@@ -170,7 +170,11 @@ no_zone : offset_of (codes "Z") ≡ Some (pos 0)
 unfolding offset_of
 no_zone = refl
 
-time_reads : (n : ℕ) → n ≤ 253_402_300_799_999 → date_time_of (instant_text (pos n)) ≡ Some (pos n)
+-- the last instant as a count of milliseconds
+abbrev last_count : ℕ
+last_count = unsigned_abs last_instant
+
+time_reads : (n : ℕ) → n ≤ last_count → date_time_of (instant_text (pos n)) ≡ Some (pos n)
 unfolding date_time_of
 time_reads n small =
     let parts = text_parts n in
@@ -179,7 +183,7 @@ time_reads n small =
     rw (parts.2, parts.0, parts.1, clock_place (n % 86_400_000) (omega arith), rest.0, rest.1, no_zone, date_reads (n / 86_400_000) (omega arith), clock_reads (n % 86_400_000) (omega arith))
     (ap (λ x. Some (pos x)) whole)
 
-text_written : (n : ℕ) → n ≤ 253_402_300_799_999 → written_of (instant_text (pos n)) ≡ Some (pos n)
+text_written : (n : ℕ) → n ≤ last_count → written_of (instant_text (pos n)) ≡ Some (pos n)
 unfolding written_of
 text_written n small =
     let parts = text_parts n in
@@ -187,9 +191,9 @@ text_written n small =
     let not_digits = and_fails_at all_ascii_digits is_ascii_digit refl (λ _ _. refl) (instant_text (pos n)) 4 0 (omega arith) dash in
     rw (not_digits, parts.3) (time_reads n small)
 
-text_reads : (n : ℕ) → n ≤ 253_402_300_799_999 → instant_of (instant_text (pos n)) ≡ Some (pos n)
+text_reads : (n : ℕ) → n ≤ last_count → instant_of (instant_text (pos n)) ≡ Some (pos n)
 unfolding instant_of
-text_reads n small = rw (text_written n small, le-leb 0 n (omega arith), le-leb n 253_402_300_799_999 small) refl
+text_reads n small = rw (text_written n small, le-leb 0 n (omega arith), le-leb n last_count small) refl
 
 pub print_reads : PrintedReadsBack
 print_reads (pos n) h = text_reads n (omega (arith, ints))
@@ -226,7 +230,7 @@ clock_ascii n small =
     (then_byte s f 46 (omega arith) (two_ascii (n / 1_000 % 60) (omega arith))
     (IsAscii-cons (48 + n % 1_000 / 100) (two_digits (n % 1_000 % 100)) (omega arith) (two_ascii (n % 1_000 % 100) (omega arith)))))
 
-text_ascii : (n : ℕ) → n ≤ 253_402_300_799_999 → IsAscii (instant_text (pos n))
+text_ascii : (n : ℕ) → n ≤ last_count → IsAscii (instant_text (pos n))
 unfolding instant_text
 text_ascii n small =
     let date = date_text (n / 86_400_000) in

@@ -9,12 +9,13 @@ ghost use Rattle.time_text.specs.Bucket.{bucket_start};
 ghost use Rattle.time_text.specs.Unit.{unit_ms};
 
 use crate::Unit;
+use crate::instants::LAST_INSTANT;
 use crate::shapes::whole_number;
 use std::fmt;
 use thiserror::Error;
 
-/// The longest interval, in milliseconds.
-pub const LONGEST_INTERVAL: u64 = 253_402_300_799_999;
+/// The longest interval, in milliseconds: as many as the last instant is behind the first.
+pub const LONGEST_INTERVAL: u64 = LAST_INSTANT as u64;
 
 /// A text that is no interval.
 #[derive(Clone, Copy, Debug, PartialEq, Eq, Error)]
