@@ -5,4 +5,5 @@ pub mod Errors
 pub mod Limits
 pub mod Play
 pub mod Script
+pub mod Statuses
 pub mod Words

@@ -1,11 +1,9 @@
 //! How a run ends before the end of its script.
 
+use crate::status::{NO_MEMORY, READ_FAULT, TOO_LONG, WRITE_FAULT};
 use edge_face::{LineError, NoMemory};
 use std::alloc::AllocError;
 use thiserror::Error;
-
-/// The status where there was no memory.
-pub const NO_MEMORY: u8 = 3;
 
 /// Why a run ends before the end of its script.
 #[derive(Clone, Copy, Debug, PartialEq, Eq, Error)]
@@ -68,9 +66,9 @@ impl RunError {
     {
         match self {
             RunError::NoMemory => NO_MEMORY,
-            RunError::Read => 4,
-            RunError::Write => 7,
-            RunError::TooLong => 8,
+            RunError::Read => READ_FAULT,
+            RunError::Write => WRITE_FAULT,
+            RunError::TooLong => TOO_LONG,
         }
     }
 }

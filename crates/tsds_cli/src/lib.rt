@@ -6,6 +6,7 @@ mod errors;
 mod machine;
 mod program;
 mod script;
+mod status;
 
-pub use errors::NO_MEMORY;
-pub use program::{USAGE, status_text, top};
+pub use program::top;
+pub use status::{DONE, NO_MEMORY, READ_FAULT, TOO_LONG, USAGE, WRITE_FAULT, status_text};

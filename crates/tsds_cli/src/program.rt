@@ -14,11 +14,9 @@ ghost use Rattle.tsds_cli.specs.Words.{is_run};
 use crate::errors::RunError;
 use crate::machine::{Machine, Reply, act, go_on, print_reply};
 use crate::script::{Heard, next_event};
+use crate::status::{DONE, USAGE};
 use edge_face::{LineReader, NoMemory, Sink, Source, put_all};
 use std::alloc::Global;
-
-/// The status where the words of the command line are no command.
-pub const USAGE: u8 = 2;
 
 /// Puts one reply.
 fn put_reply<K: Sink>(sink: &mut K, reply: &[u8]) -> Result<(), RunError>
@@ -157,19 +155,7 @@ pub fn top<S: Source, K: Sink>(alloc: Global, words: &[String], source: &mut S, 
         return USAGE;
     }
     match run_empty(alloc, source, sink) {
-        Ok(()) => 0,
+        Ok(()) => DONE,
         Err(error) => error.status(),
-    }
-}
-
-/// What the program prints on standard error for a status, nothing for 0.
-pub fn status_text(status: u8) -> &'static str {
-    match status {
-        0 => "",
-        2 => "tsds: usage",
-        3 => "tsds: out of memory",
-        4 => "tsds: read fault",
-        7 => "tsds: write fault",
-        _ => "tsds: input too long",
     }
 }
