@@ -5,7 +5,7 @@ use edge_face::{ReaderSource, WriterSink};
 use std::io::ErrorKind;
 use std::process::ExitCode;
 use std::{env, io};
-use tsds_cli::{NO_MEMORY, USAGE, status_text, top};
+use tsds_cli::{DONE, NO_MEMORY, USAGE, status_text, top};
 
 /// The words of the command line.
 fn words(rt: &HostRuntime) -> io::Result<Vec<String>> {
@@ -35,7 +35,7 @@ fn run(rt: &HostRuntime) -> u8 {
 
 fn main(rt: HostRuntime) -> ExitCode {
     let status = run(&rt);
-    if status != 0 {
+    if status != DONE {
         // Where standard error takes nothing the status alone tells.
         let _ = rt.eprintln(status_text(status));
     }
