@@ -2,6 +2,8 @@
 use Rattle.std.proofs.Common.{◌≡◌, ◌∙◌, ℕ, suc, ◌-◌, ◌==◌, ◌&&◌, ◌||◌, ◌≤◌, ◌⊎◌, inl, inr, Bool, true, false, nat_lt, cond, List, [], ◌∷◌, ◌++◌, length, take, map, Option, None, Some, IfSome, refl, ap, sym, subst, arith, append_assoc, append-nil}
 use Rattle.std.specs.List.{filter, concat, slice_index}
 use Rattle.std.specs.Option.{option_map}
+use Rattle.std.specs.Prelude.{All}
+use Rattle.std.proofs.lemmas.List.Elements.{All-append, All-cons, All-nil}
 use Rattle.std.specs.Prelude.{IfErr, IsErrAnd, Result}
 use Rattle.std.proofs.lemmas.Result.{err_from_is_err_and}
 use Rattle.std.specs.Io.BufRead.{ends_with_byte, strip_last}
@@ -15,7 +17,7 @@ use Rattle.tsds_cli.specs.Script.{Event}
 use Rattle.tsds_cli.specs.declared.errors.RunError.{RunError}
 use Rattle.tsds_cli.specs.declared.errors.RunError.TheVariants.{Read, Write, TooLong, NoMemory}
 use Rattle.tsds_cli.specs.Script.{Place, between, closed_of, events_of, closed_from, events_from, whole_lines, lines_of}
-use Rattle.tsds_cli.specs.Limits.{fine_of, is_too_long, is_over, is_long_piece, passed_from}
+use Rattle.tsds_cli.specs.Limits.{fine_of, is_too_long, is_over, is_long_piece, passed_from, IsShort}
 use Rattle.tsds_cli.specs.Ahead.{Ahead, ahead_in, ahead_of, behind, Passed, IsAtEnd, Stopped}
 use Rattle.tsds_cli.specs.Play.{Play, text_of, with_reply, replies, after_events, PutAll, IsBehind}
 use Rattle.tsds_cli.specs.Ends.{EndsBy, Broke, IsPut, Reached, IsFront, IsFine, IsNear, PutFront, PutPart, PutFine}
@@ -172,6 +174,7 @@ module _ {S : Type 0} (play : Play S) where
   pub reached-none : (start : S) (reader : Reading) (script given0 : Option (List ℕ)) → reader ≡ fresh → Reached play start start fresh reader script script given0 given0
   reached-none start reader script given0 is = record {
     done = [];
+    bodies = All-nil IsShort;
     state = refl;
     put = given-nothing given0;
     passed = subst (λ r. Passed between [] between fresh r script script) (sym is) (record {
@@ -189,12 +192,17 @@ module _ {S : Type 0} (play : Play S) where
       none None = refl
       none (Some a) = refl
 
+  -- their bodies, with one more
+  bodies-more : (es : List Event) (e : Event) → All IsShort es → IsShort e → All IsShort (es ++ e ∷ [])
+  bodies-more es e all one = All-append IsShort es (e ∷ []) all (All-cons IsShort e [] one (All-nil IsShort))
+
   -- one event more
   pub one-more : (start now next : S) (reader reader' : Reading) (script left left' given0 given given' : Option (List ℕ)) (e : Event)
-      → Reached play start now fresh reader script left given0 given → Passed between (e ∷ []) between reader reader' left left' → next ≡ (play.act now e).after → given' ≡ appended given (text_of (play.act now e).reply)
+      → Reached play start now fresh reader script left given0 given → Passed between (e ∷ []) between reader reader' left left' → IsShort e → next ≡ (play.act now e).after → given' ≡ appended given (text_of (play.act now e).reply)
       → Reached play start next fresh reader' script left' given0 given'
-  one-more start now next reader reader' script left left' given0 given given' e r p next_is put_is = record {
+  one-more start now next reader reader' script left left' given0 given given' e r p body next_is put_is = record {
     done = r.done ++ e ∷ [];
+    bodies = bodies-more r.done e r.bodies body;
     state = next_is ∙ ap (λ s. (play.act s e).after) r.state ∙ sym (after-more start r.done e);
     put = put_is ∙ ap (λ g. appended g (text_of (play.act now e).reply)) r.put ∙ ap (λ s. appended (appended given0 (concat (replies play start r.done))) (text_of (play.act s e).reply)) r.state
         ∙ given_twice given0 (concat (replies play start r.done)) (text_of (play.act (after_events play start r.done) e).reply) ∙ ap (appended given0) (sym (replies-more start r.done e));
@@ -205,7 +213,7 @@ module _ {S : Type 0} (play : Play S) where
   pub front-of : (start now : S) (reader : Reading) (script left given0 given : Option (List ℕ)) → Reached play start now fresh reader script left given0 given → KnowsEnd reader.ended left → PutFront play start now script left given0 given
   front-of start now reader script left given0 given r knows =
       let f = fronts r.done between reader script left knows r.passed in
-      record { done = r.done; more = f.0; front = f.1; fine = fine-front r.done between reader script left r.passed; put = r.put; state = inl r.state }
+      record { done = r.done; more = f.0; front = f.1; fine = fine-front r.done between reader script left r.passed; bodies = r.bodies; put = r.put; state = inl r.state }
 
   -- no memory for an event that was read: nothing of it was put
   front-before : (start now state : S) (reader reader' : Reading) (script left left' given0 given : Option (List ℕ)) (e : Event) → Reached play start now fresh reader script left given0 given → Passed between (e ∷ []) between reader reader' left left' → KnowsEnd reader'.ended left'
@@ -213,7 +221,7 @@ module _ {S : Type 0} (play : Play S) where
   front-before start now state reader reader' script left left' given0 given e r p knows near =
       let all = passed-passed r.done (e ∷ []) between between between fresh reader reader' script left left' r.passed p in
       let f = fronts (r.done ++ e ∷ []) between reader' script left' knows all in
-      record { done = r.done; more = e ∷ f.0; front = front-next r.done e f.0 script left' f.1; fine = fine-front r.done between reader script left r.passed; put = r.put; state = by f.0 (fine-front (r.done ++ e ∷ []) between reader' script left' all) near }
+      record { done = r.done; more = e ∷ f.0; front = front-next r.done e f.0 script left' f.1; fine = fine-front r.done between reader script left r.passed; bodies = r.bodies; put = r.put; state = by f.0 (fine-front (r.done ++ e ∷ []) between reader' script left' all) near }
     where
       by : (more : List Event) → IsFine (r.done ++ e ∷ []) script → play.left now e state ⊎ (state ≡ (play.act now e).stepped) → IsNear play start state r.done (e ∷ more) script
       by more fine (inl left) = inr (inl (record { next = e; later = more; first = refl; fine = fine; is = inl (subst (λ s. play.left s e state) r.state left) }))
@@ -221,17 +229,17 @@ module _ {S : Type 0} (play : Play S) where
 
   -- no memory for the unit of an event: all of its reply was put
   front-behind : (start now state : S) (reader reader' : Reading) (script left left' given0 given given' : Option (List ℕ)) (e : Event) → Reached play start now fresh reader script left given0 given → Passed between (e ∷ []) between reader reader' left left' → KnowsEnd reader'.ended left'
-      → state ≡ (play.act now e).stepped → given' ≡ appended given (text_of (play.act now e).reply) → PutFront play start state script left' given0 given'
+      → IsShort e → state ≡ (play.act now e).stepped → given' ≡ appended given (text_of (play.act now e).reply) → PutFront play start state script left' given0 given'
   unfolding one-more
-  front-behind start now state reader reader' script left left' given0 given given' e r p knows stepped put_is =
-      let all = one-more start now (play.act now e).after reader reader' script left left' given0 given given' e r p refl put_is in
+  front-behind start now state reader reader' script left left' given0 given given' e r p knows body stepped put_is =
+      let all = one-more start now (play.act now e).after reader reader' script left left' given0 given given' e r p body refl put_is in
       let f = fronts all.done between reader' script left' knows all.passed in
-      record { done = all.done; more = f.0; front = f.1; fine = fine-front all.done between reader' script left' all.passed; put = all.put; state = inr (inr (record { earlier = r.done; last = e; end = refl; is = record { stepped = stepped ∙ ap (λ s. (play.act s e).stepped) r.state } })) }
+      record { done = all.done; more = f.0; front = f.1; fine = fine-front all.done between reader' script left' all.passed; bodies = all.bodies; put = all.put; state = inr (inr (record { earlier = r.done; last = e; end = refl; is = record { stepped = stepped ∙ ap (λ s. (play.act s e).stepped) r.state } })) }
 
   -- a first part of an event's reply was put
   part-of : (start now state : S) (reader reader' : Reading) (script left left' given0 given given' : Option (List ℕ)) (e : Event) → Reached play start now fresh reader script left given0 given → Passed between (e ∷ []) between reader reader' left left' → KnowsEnd reader'.ended left'
-      → state ≡ (play.act now e).stepped → IsPut (text_of (play.act now e).reply) given given' → PutPart play start state script left' given0 given'
-  part-of start now state reader reader' script left left' given0 given given' e r p knows stepped cut =
+      → IsShort e → state ≡ (play.act now e).stepped → IsPut (text_of (play.act now e).reply) given given' → PutPart play start state script left' given0 given'
+  part-of start now state reader reader' script left left' given0 given given' e r p knows body stepped cut =
       let all = passed-passed r.done (e ∷ []) between between between fresh reader reader' script left left' r.passed p in
       let f = fronts (r.done ++ e ∷ []) between reader' script left' knows all in
       record {
@@ -240,6 +248,7 @@ module _ {S : Type 0} (play : Play S) where
         more = f.0;
         front = front-next r.done e f.0 script left' f.1;
         fine = fine-front (r.done ++ e ∷ []) between reader' script left' all;
+        bodies = bodies-more r.done e r.bodies body;
         part = cut.part;
         cut = cut.more;
         some = cut.cut;
@@ -250,14 +259,14 @@ module _ {S : Type 0} (play : Play S) where
 
   -- an event that broke off
   pub ends-broken : (start now state : S) (error : RunError) (reader reader' : Reading) (script left left' given0 given given' : Option (List ℕ)) (e : Event) → Reached play start now fresh reader script left given0 given → Passed between (e ∷ []) between reader reader' left left' → KnowsEnd reader'.ended left'
-      → Broke play now state e error given given' → EndsBy play start state error script left' given0 given'
-  ends-broken start now state NoMemory reader reader' script left left' given0 given given' e r p knows (inl none) =
+      → IsShort e → Broke play now state e error given given' → EndsBy play start state error script left' given0 given'
+  ends-broken start now state NoMemory reader reader' script left left' given0 given given' e r p knows body (inl none) =
       subst (λ g. PutFront play start state script left' given0 g) (sym none.1) (front-before start now state reader reader' script left left' given0 given e r p knows none.0)
-  ends-broken start now state NoMemory reader reader' script left left' given0 given given' e r p knows (inr all) =
-      front-behind start now state reader reader' script left left' given0 given given' e r p knows all.0 all.1
-  ends-broken start now state Write reader reader' script left left' given0 given given' e r p knows broke = part-of start now state reader reader' script left left' given0 given given' e r p knows broke.0 broke.1
-  ends-broken start now state Read reader reader' script left left' given0 given given' e r p knows broke = absurd broke
-  ends-broken start now state TooLong reader reader' script left left' given0 given given' e r p knows broke = absurd broke
+  ends-broken start now state NoMemory reader reader' script left left' given0 given given' e r p knows body (inr all) =
+      front-behind start now state reader reader' script left left' given0 given given' e r p knows body all.0 all.1
+  ends-broken start now state Write reader reader' script left left' given0 given given' e r p knows body broke = part-of start now state reader reader' script left left' given0 given given' e r p knows body broke.0 broke.1
+  ends-broken start now state Read reader reader' script left left' given0 given given' e r p knows body broke = absurd broke
+  ends-broken start now state TooLong reader reader' script left left' given0 given given' e r p knows body broke = absurd broke
 
   -- no memory before the first event
   pub ends-unread : (start : S) (script given0 : Option (List ℕ)) → EndsBy play start start NoMemory script script given0 given0
@@ -277,13 +286,14 @@ module _ {S : Type 0} (play : Play S) where
         taken_is = taken-is (r.done ++ []) s.place reader' script left' p;
         short = p.short s.why.1 reader'.pending ∙ none-passed s.place reader'.answered reader'.pending s.why.0 s.why.2;
         fine = subst (λ es. IsFine es script) (sym all) (fine-front r.done between reader script left r.passed);
+        bodies = subst (All IsShort) (sym all) r.bodies;
         put = r.put ∙ ap (λ es. appended given0 (concat (replies play start es))) (sym all);
         state = r.state ∙ ap (after_events play start) (sym all);
       }
   ends-by start now NoMemory reader reader' script left left' given0 given r s knows =
       let p = passed-passed r.done [] between between s.place fresh reader reader' script left left' r.passed s.passed in
       let f = fronts (r.done ++ []) s.place reader' script left' knows p in
-      record { done = r.done; more = f.0; front = subst (λ es. IsFront es f.0 script left') (append-nil r.done) f.1; fine = fine-front r.done between reader script left r.passed; put = r.put; state = inl r.state }
+      record { done = r.done; more = f.0; front = subst (λ es. IsFront es f.0 script left') (append-nil r.done) f.1; fine = fine-front r.done between reader script left r.passed; bodies = r.bodies; put = r.put; state = inl r.state }
   ends-by start now Write reader reader' script left left' given0 given r s knows = absurd s.why
   ends-by start now TooLong reader reader' script left left' given0 given r s knows =
       let p = passed-passed r.done [] between between s.place fresh reader reader' script left left' r.passed s.passed in
@@ -295,6 +305,7 @@ module _ {S : Type 0} (play : Play S) where
           let fine : fine_of all ≡ r.done = ap (λ (a : Ahead). a.fine) h.1 ∙ ap (λ l. (r.done ++ []) ++ l) h.2.0 ∙ append-nil (r.done ++ []) ∙ append-nil r.done in
           record {
             long = ap (λ (a : Ahead). a.long) h.1 ∙ h.2.1;
+            bodies = subst (All IsShort) (sym fine) r.bodies;
             put = r.put ∙ ap (λ es. appended given0 (concat (replies play start es))) (sym fine);
             state = r.state ∙ ap (after_events play start) (sym fine);
           }

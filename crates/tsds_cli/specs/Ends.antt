@@ -1,12 +1,12 @@
 -- How a run ends before the end of its script: what it wrote, and the state that it left.
-use Rattle.std.specs.Prelude.{◌≡◌, ℕ, ◌<◌, List, [], ◌∷◌, ◌++◌, length, true, false, Option, IfSome, ◌⊎◌}
+use Rattle.std.specs.Prelude.{◌≡◌, ℕ, ◌<◌, List, [], ◌∷◌, ◌++◌, length, All, true, false, Option, IfSome, ◌⊎◌}
 use Rattle.std.specs.List.{concat}
 use Rattle.edge_face.specs.Contents.{appended, preceded}
 use Rattle.edge_face.specs.Reading.{Reading}
 use Rattle.tsds_cli.specs.declared.errors.RunError.{RunError}
 use Rattle.tsds_cli.specs.declared.errors.RunError.TheVariants.{NoMemory, Read, Write, TooLong}
 use Rattle.tsds_cli.specs.Ahead.{Passed}
-use Rattle.tsds_cli.specs.Limits.{fine_of, is_too_long, has_passed}
+use Rattle.tsds_cli.specs.Limits.{fine_of, is_too_long, has_passed, IsShort}
 use Rattle.tsds_cli.specs.Script.{Event, between, closed_of, events_of}
 use Rattle.tsds_cli.specs.Play.{Play, text_of, replies, after_events, PutAll, IsBehind}
 
@@ -31,9 +31,10 @@ Broke play now state e Write before given = (state ≡ (play.act now e).stepped)
 Broke play now state e Read before given = ⊥
 Broke play now state e TooLong before given = ⊥
 
--- a run between two events: these were done
+-- a run between two events: these were done, each with a body within its length
 pub record Reached {S : Type 0} (play : Play S) (start now : S) (first reader : Reading) (script left given0 given : Option (List ℕ)) : Type 0 where
   pub done : List Event
+  pub bodies : All IsShort done
   pub state : IsBehind play start now done
   pub put : PutAll play start given0 given done
   pub passed : Passed between done between first reader script left
@@ -70,12 +71,14 @@ pub record LastIsStepped {S : Type 0} (play : Play S) (start now : S) (done : Li
 abbrev pub IsNear : {S : Type 0} → Play S → S → S → List Event → List Event → Option (List ℕ) → Type 0
 IsNear play start now done more script = IsBehind play start now done ⊎ (NextIsBroken play start now done more script ⊎ LastIsStepped play start now done)
 
--- all replies to events that are closed in the bytes taken were put, and no length is passed in these
+-- all replies to events that are closed in the bytes taken were put, and no length is passed in these; here and below each event that is
+-- spoken of has a body within its length
 pub record PutClosed {S : Type 0} (play : Play S) (start now : S) (script left given0 given : Option (List ℕ)) : Type 0 where
   pub taken : List ℕ
   pub taken_is : script ≡ preceded taken left
   pub short : has_passed taken ≡ false
   pub fine : IsFine (closed_of taken) script
+  pub bodies : All IsShort (closed_of taken)
   pub put : PutAll play start given0 given (closed_of taken)
   pub state : IsBehind play start now (closed_of taken)
 
@@ -85,6 +88,7 @@ pub record PutFront {S : Type 0} (play : Play S) (start now : S) (script left gi
   pub more : List Event
   pub front : IsFront done more script left
   pub fine : IsFine done script
+  pub bodies : All IsShort done
   pub put : PutAll play start given0 given done
   pub state : IsNear play start now done more script
 
@@ -95,6 +99,7 @@ pub record PutPart {S : Type 0} (play : Play S) (start now : S) (script left giv
   pub more : List Event
   pub front : IsFront done (next ∷ more) script left
   pub fine : IsFine (done ++ next ∷ []) script
+  pub bodies : All IsShort (done ++ next ∷ [])
   pub part : List ℕ
   pub cut : List ℕ
   pub whole : part ++ cut ≡ text_of (play.act (after_events play start done) next).reply
@@ -105,6 +110,7 @@ pub record PutPart {S : Type 0} (play : Play S) (start now : S) (script left giv
 -- the replies to the events before the length that is passed were put
 pub record PutFine {S : Type 0} (play : Play S) (start now : S) (all : List ℕ) (given0 given : Option (List ℕ)) : Type 0 where
   pub long : is_too_long all ≡ true
+  pub bodies : All IsShort (fine_of all)
   pub put : PutAll play start given0 given (fine_of all)
   pub state : IsBehind play start now (fine_of all)
 

@@ -30,13 +30,13 @@ pub returns-in_err-do_event-clause-refused : goal.returns-in_err-do_event-clause
 returns-in_err-do_event-clause-refused g c =
     let passed = c.in_ok-more.ensures.event (ap Ok c.if-not-more.false) in
     err-ends script_play c.args.machine.now c.do_event.new.machine c.from_residual-in_err-do_event.result c.in_err-do_event.field-0.0 _ _ _ _ c.from_residual-in_err-do_event.ensures.1
-    (ends-broken script_play c.args.machine.now c.events.machine c.do_event.new.machine c.in_err-do_event.field-0.0 c.events.reader c.next_event.new.reader _ _ _ _ _ _ (event_in c.next_event.new.heard) c.events.invariant.reached passed c.next_event.ensures.knows c.in_err-do_event.ensures.broke)
+    (ends-broken script_play c.args.machine.now c.events.machine c.do_event.new.machine c.in_err-do_event.field-0.0 c.events.reader c.next_event.new.reader _ _ _ _ _ _ (event_in c.next_event.new.heard) c.events.invariant.reached passed c.next_event.ensures.knows (c.in_ok-more.ensures.held (ap Ok c.if-not-more.false)) c.in_err-do_event.ensures.broke)
 
 pub events-preserved : goal.events-preserved
 events-preserved g c =
     let passed = c.in_ok-more.ensures.event (ap Ok c.if-not-more.false) in
     record {
-      reached = one-more script_play c.args.machine.now c.events.machine c.do_event.new.machine c.events.reader c.next_event.new.reader _ _ _ _ _ _ (event_in c.next_event.new.heard) c.events.invariant.reached passed c.in_ok-do_event.ensures.after c.in_ok-do_event.ensures.put;
+      reached = one-more script_play c.args.machine.now c.events.machine c.do_event.new.machine c.events.reader c.next_event.new.reader _ _ _ _ _ _ (event_in c.next_event.new.heard) c.events.invariant.reached passed (c.in_ok-more.ensures.held (ap Ok c.if-not-more.false)) c.in_ok-do_event.ensures.after c.in_ok-do_event.ensures.put;
       fine = c.in_ok-more.ensures.fine;
       knows = c.next_event.ensures.knows;
       counted = omega arith;
