@@ -71,8 +71,8 @@ pub record LastIsStepped {S : Type 0} (play : Play S) (start now : S) (done : Li
 abbrev pub IsNear : {S : Type 0} → Play S → S → S → List Event → List Event → Option (List ℕ) → Type 0
 IsNear play start now done more script = IsBehind play start now done ⊎ (NextIsBroken play start now done more script ⊎ LastIsStepped play start now done)
 
--- all replies to events that are closed in the bytes taken were put, and no length is passed in these; here and below each event that is
--- spoken of has a body within its length
+-- all replies to events that are closed in the bytes taken were put, and no length is passed in these. Here and below the events done, and
+-- the one whose reply is cut off, have bodies within their length
 pub record PutClosed {S : Type 0} (play : Play S) (start now : S) (script left given0 given : Option (List ℕ)) : Type 0 where
   pub taken : List ℕ
   pub taken_is : script ≡ preceded taken left
