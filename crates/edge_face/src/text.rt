@@ -145,6 +145,13 @@ impl Bytes {
         Bytes { inner: from }
     }
 
+    /// The buffer of the bytes, so that whoever is done with them can fill it again.
+    pub fn into_vec(self) -> Vec<u8>
+        ensures { result.items ≡ self }
+    {
+        self.inner
+    }
+
     pub fn as_slice(&self) -> &[u8]
         ensures { result.now ≡ self.now }
     {

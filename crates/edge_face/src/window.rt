@@ -65,7 +65,8 @@ struct Span {
 
 /// Sees to room behind the bytes from `start` to `end`: moves them to the front where they reach the buffer's end.
 ///
-/// Bytes are moved only once they wait for the rest of their line, so each is moved at most once.
+/// Bytes of lines are moved only where they wait for the rest of their line, so each is moved at most once. Who passes other parts than
+/// lines may have what waits moved once more whenever it reaches the buffer's end; never where nothing was passed since.
 fn room_behind(buffer: &mut Vec<u8>, start: usize, end: usize) -> Span
     requires order { start ≤ end }
     requires inside { end ≤ length buffer.old.items }

@@ -1,8 +1,8 @@
 //! Acceptors of links in memory.
-ghost use Rattle.std.specs.Prelude.{◌≡◌, ◌≤◌, ◌↔◌, ℕ, List, [], ◌∷◌, All, Contains, None, Some, IsSome, IsErr, IsOk, IfOk, IfSome, IfNone, OnErr, OnOk};
+ghost use Rattle.std.specs.Prelude.{◌≡◌, ◌≤◌, ◌↔◌, ℕ, List, [], ◌∷◌, All, map, Contains, None, Some, IsSome, IsErr, IsOk, IfOk, IfSome, IfNone, OnErr, OnOk};
 ghost use Rattle.edge_face.specs.Contents.{Rose};
 ghost use Rattle.edge_face.specs.Links.{IsNextLink, finished};
-ghost use Rattle.edge_face.specs.Memory.{IsFresh, bytes_of, one_more};
+ghost use Rattle.edge_face.specs.Memory.{IsFresh, bytes_of, ended_of, one_more};
 
 use super::link::MemoryLink;
 use super::parts::Plan;
@@ -47,6 +47,13 @@ impl MemoryAcceptor {
             plan: Plan::new(fails),
             faults: 0,
         }
+    }
+
+    /// The links that ended, in the order in which they did: what a test looks at behind the call that it tries.
+    pub fn ended(&self) -> &[MemoryLink]
+        ensures { map ended_of result.now ≡ self.now.ended }
+    {
+        self.queue.ended()
     }
 
     /// Counts a call, and fails where it is one of those that fail.
@@ -175,6 +182,13 @@ impl SteadyAcceptor {
         SteadyAcceptor {
             queue: Queue::new(coming),
         }
+    }
+
+    /// The links that ended, in the order in which they did: what a test looks at behind the call that it tries.
+    pub fn ended(&self) -> &[MemoryLink]
+        ensures { map ended_of result.now ≡ self.now.ended }
+    {
+        self.queue.ended()
     }
 }
 

@@ -1,5 +1,5 @@
 //! Links in memory that come one after the other, and how they ended.
-ghost use Rattle.std.specs.Prelude.{◌≡◌, ℕ, List, [], ◌∷◌, ◌++◌, All, None, Some, IfOk, IfSome, IfNone, OnErr, OnOk};
+ghost use Rattle.std.specs.Prelude.{◌≡◌, ℕ, List, [], ◌∷◌, ◌++◌, All, map, None, Some, IfOk, IfSome, IfNone, OnErr, OnOk};
 ghost use Rattle.edge_face.specs.Memory.{IsFresh, ended_of, one_more};
 
 use super::link::MemoryLink;
@@ -39,6 +39,13 @@ impl Queue {
             port: None,
             calls: 0,
         }
+    }
+
+    /// The links that ended, in the order in which they did.
+    pub fn ended(&self) -> &[MemoryLink]
+        ensures { map ended_of result.now ≡ self.now.ended }
+    {
+        self.ended.as_slice()
     }
 
     pub fn call(&mut self)
