@@ -1,5 +1,5 @@
--- How long inputs may be.
-use Rattle.std.specs.Prelude.{ℕ}
+-- How long inputs may be, and how far time goes.
+use Rattle.std.specs.Prelude.{ℕ, ℤ, pos}
 
 -- how many bytes a line may have before its newline or the end
 abbrev pub line_limit : ℕ
@@ -12,3 +12,7 @@ input_limit = 68719476736
 -- how many bytes the body of a request may have
 abbrev pub body_limit : ℕ
 body_limit = 67108864
+
+-- the last millisecond of the year 9999, since 1970 began
+abbrev pub last_instant : ℤ
+last_instant = pos 253402300799999

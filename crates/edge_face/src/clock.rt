@@ -11,7 +11,7 @@ pub trait Clock {
 
     ghost calls: { Self → ℕ };
 
-    /// The present moment, from 0 to the last millisecond of the year 9999.
+    /// The present moment, from 0 to `LAST_INSTANT`.
     fn now(&mut self) -> i64
         ensures moment { IsMoment result }
         ensures told { IfSome (left self.old) (λ all. GivesMoment all result (left self.new)) }

@@ -12,11 +12,12 @@ mod reader;
 mod stream;
 mod text;
 mod window;
+mod words;
 
 pub use clock::Clock;
 pub use device::{Failed, PutFailed, Sink, Source, put_all};
 pub use keeper::{Change, KeepError, Keeper};
-pub use limits::{BODY_LIMIT, INPUT_LIMIT, LINE_LIMIT};
+pub use limits::{BODY_LIMIT, INPUT_LIMIT, LAST_INSTANT, LINE_LIMIT};
 pub use link::{Acceptor, Link};
 pub use memory::{
     MemoryAcceptor, MemoryClock, MemoryKeeper, MemoryLink, MemorySink, MemorySource, NullSink,
@@ -26,3 +27,4 @@ pub use reader::{LineError, LineReader};
 pub use stream::{ReaderSource, WriterSink};
 pub use text::{Bytes, NoMemory, Text};
 pub use window::{NoPiece, Window};
+pub use words::bytes_order;

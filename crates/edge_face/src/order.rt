@@ -4,6 +4,7 @@ ghost use Rattle.std.specs.Cmp.Lexicographic.{pointwise, slice_cmp, nat_list_eq_
 ghost use Rattle.std.specs.Cmp;
 
 use super::text::{Bytes, Text};
+use super::words::bytes_order;
 use std::cmp::Ordering;
 
 impl PartialEq for Text {
@@ -12,7 +13,7 @@ impl PartialEq for Text {
     ghost laws = { Cmp.partial_equiv_from_equiv nat_list_eq_equiv };
 
     fn eq(&self, other: &Text) -> bool {
-        self.as_str() == other.as_str()
+        bytes_order(self.as_bytes(), other.as_bytes()).is_eq()
     }
 }
 
@@ -40,7 +41,7 @@ impl Ord for Text {
     ghost matches_eq = { texts_ties };
 
     fn cmp(&self, other: &Text) -> Ordering {
-        self.as_str().cmp(other.as_str())
+        bytes_order(self.as_bytes(), other.as_bytes())
     }
 }
 
@@ -50,7 +51,7 @@ impl PartialEq for Bytes {
     ghost laws = { Cmp.partial_equiv_from_equiv nat_list_eq_equiv };
 
     fn eq(&self, other: &Bytes) -> bool {
-        self.as_slice() == other.as_slice()
+        bytes_order(self.as_slice(), other.as_slice()).is_eq()
     }
 }
 
@@ -78,6 +79,6 @@ impl Ord for Bytes {
     ghost matches_eq = { texts_ties };
 
     fn cmp(&self, other: &Bytes) -> Ordering {
-        self.as_slice().cmp(other.as_slice())
+        bytes_order(self.as_slice(), other.as_slice())
     }
 }

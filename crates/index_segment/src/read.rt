@@ -9,8 +9,8 @@ ghost use Rattle.index_segment.specs.Spelling.{IsSegmentOf};
 use crate::forms::forms_of;
 use crate::parse::read_parts;
 use crate::remake::make_rows;
-use edge_face::NoMemory;
-use row_cells::{Row, Schema, bytes_order};
+use edge_face::{NoMemory, bytes_order};
+use row_cells::{Row, Schema};
 use series_id::are_rows_of;
 use std::alloc::Global;
 

@@ -1,10 +1,9 @@
 //! Clocks that tell the moments of a list.
 ghost use Rattle.edge_face.specs.Moments.{IsMoment};
 
-use edge_face::{Clock, MemoryClock};
+use edge_face::{Clock, LAST_INSTANT, MemoryClock};
 use probe_case::{Trial, has};
 use serde_json::Value;
-use time_text::LAST_INSTANT;
 
 fn moment_at(case: &Value, name: &str, trial: &mut Trial) -> i64
     ensures { IsMoment result }

@@ -2,7 +2,8 @@
 use crate::rows::{case_rows, row_of, schema_at};
 use crate::shown::ok_row;
 use probe_case::{Trial, is_set, number_or, part};
-use row_cells::{Cell, Schema, bytes_order, copy_row, fit_cells, head_row};
+use edge_face::bytes_order;
+use row_cells::{Cell, Schema, copy_row, fit_cells, head_row};
 use serde_json::Value;
 use series_id::are_rows_of;
 use std::alloc::Global;

@@ -5,4 +5,3 @@ pub mod Joined
 pub mod ReadBack
 pub mod Reading
 pub mod Spelled
-mod WordOrder

@@ -7,7 +7,7 @@ use crate::limits::LONGEST_WORD;
 use crate::rows::Cell;
 use crate::scalars::Scalar;
 use crate::schemas::{Field, FieldType, Role};
-use crate::words::bytes_order;
+use edge_face::bytes_order;
 use fold_law::{Parts, Rise};
 use std::cmp::Ordering;
 use time_text::is_instant;

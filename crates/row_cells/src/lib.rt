@@ -18,7 +18,6 @@ mod schemas;
 mod spelling;
 mod texts;
 mod widening;
-mod words;
 
 pub use checks::{are_few, are_in_row_order, have_short_lists};
 pub use copies::{
@@ -39,4 +38,3 @@ pub use schemas::{Field, FieldType, Role, Schema};
 pub use spelling::keys_tell_dimensions;
 pub use texts::{TextAt, read_text};
 pub use widening::widen;
-pub use words::bytes_order;

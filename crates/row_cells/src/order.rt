@@ -8,7 +8,7 @@ ghost use Rattle.row_cells.specs.Order.{row_cmp};
 
 use crate::keys::Key;
 use crate::rows::Row;
-use crate::words::bytes_order;
+use edge_face::bytes_order;
 use std::cmp::Ordering;
 
 impl PartialEq for Key {

@@ -7,7 +7,7 @@ ghost use Rattle.row_cells.specs.declared.scalars.Scalar.{Scalar};
 
 use crate::limits::{LONGEST_KEY, LONGEST_PATH};
 use crate::texts::{TextAt, read_text};
-use crate::words::bytes_order;
+use edge_face::bytes_order;
 use std::cmp::Ordering;
 
 /// Skips a tag and the value that it announces.

@@ -6,7 +6,8 @@ ghost use Rattle.row_cells.specs.declared.scalars.Scalar.{Scalar};
 ghost use Rattle.search_filter.specs.Seen.{cell_seen, seen};
 ghost use Rattle.search_filter.specs.Values.{number_of, rank_of, value_cmp, values_at, word_of};
 
-use row_cells::{Cell, Role, Row, Scalar, Schema, bytes_order};
+use edge_face::bytes_order;
+use row_cells::{Cell, Role, Row, Scalar, Schema};
 use std::cmp::Ordering;
 
 /// The values that a row has at a field, without a copy of them.

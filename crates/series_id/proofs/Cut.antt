@@ -5,7 +5,8 @@ use Rattle.std.proofs.Common.{ap, ◌∙◌, sym, arith, get_or, take, drop, sub
 use Rattle.std.proofs.lemmas.Int.{ints}
 use Rattle.std.proofs.lemmas.List.{take-append-drop}
 use Rattle.std.proofs.lemmas.Nat.{be_bytes_8}
-use Rattle.time_text.specs.Instant.{IsInstant, last_instant}
+use Rattle.edge_face.specs.Limits.{last_instant}
+use Rattle.time_text.specs.Instant.{IsInstant}
 use Rattle.series_id.specs.Ids.{id_bytes}
 
 small_drop : (n : ℕ) (xs : List ℕ) → ((i : ℕ) → get_or xs i 0 < 256) → (i : ℕ) → get_or (drop n xs) i 0 < 256

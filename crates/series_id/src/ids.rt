@@ -6,10 +6,9 @@ ghost use Rattle.series_id.specs.Ids.{id_bytes, id_of};
 ghost use Rattle.series_id.specs.IdLaws.{SameDocument};
 
 use crate::base64url;
-use edge_face::{NoMemory, Text};
+use edge_face::{LAST_INSTANT, NoMemory, Text};
 use row_cells::Key;
 use std::alloc::Global;
-use time_text::LAST_INSTANT;
 
 /// The id of the document of a series and an instant: base64 for URLs, without padding, of the key and of the
 /// time in eight bytes with the highest first.

@@ -7,7 +7,8 @@ ghost use Rattle.shard_route.specs.Routing.{is_among, routing_paths};
 ghost use Rattle.shard_route.specs.RoutingLaws.{Ascend, Looked};
 
 use crate::hashing::{OFFSET_BASIS, hash_on};
-use row_cells::{Field, bytes_order, read_entry};
+use edge_face::bytes_order;
+use row_cells::{Field, read_entry};
 use std::cmp::Ordering;
 
 /// What a look for a path finds: the routing fields that later paths may be among, and whether it is one.

@@ -8,7 +8,8 @@ use Rattle.std.proofs.lemmas.Bool.{leb-false}
 use Rattle.std.proofs.lemmas.Int.{ints}
 use Rattle.std.proofs.lemmas.Slice.Eq.{bytes_eq-Decides}
 use Rattle.row_cells.specs.Each.{Each, Each-weaker}
-use Rattle.time_text.specs.Instant.{IsInstant, last_instant}
+use Rattle.edge_face.specs.Limits.{last_instant}
+use Rattle.time_text.specs.Instant.{IsInstant}
 use Rattle.downsample_fold.specs.Laws.{KeysAscend}
 use Rattle.index_names.specs.Backing.{greatest_generation}
 use Rattle.lifecycle_swap.specs.Ends.{end_after}

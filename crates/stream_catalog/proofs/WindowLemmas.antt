@@ -6,7 +6,8 @@ use Rattle.std.proofs.Common.{ap, sym, subst, arith}
 use Rattle.std.proofs.lemmas.Bool.{both_ways}
 use Rattle.std.proofs.lemmas.Bool.Decides.{Decides-int_eq}
 use Rattle.std.proofs.lemmas.Int.{ints, clamps, by_lt_z}
-use Rattle.time_text.specs.Instant.{IsInstant, last_instant}
+use Rattle.edge_face.specs.Limits.{last_instant}
+use Rattle.time_text.specs.Instant.{IsInstant}
 use Rattle.time_text.specs.Moment.{cut}
 use Rattle.ts_mapping.specs.Ranges.{IsLook}
 

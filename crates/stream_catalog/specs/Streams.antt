@@ -9,7 +9,7 @@ use Rattle.ts_mapping.specs.Ranges.{mapping_of}
 use Rattle.ts_mapping.specs.declared.templates.Template.{Template}
 use Rattle.index_names.specs.Backing.{backing_name, greatest_generation, is_reserved}
 use Rattle.lifecycle_swap.specs.Ends.{end_after}
-use Rattle.time_text.specs.Instant.{last_instant}
+use Rattle.edge_face.specs.Limits.{last_instant}
 use Rattle.lifecycle_swap.specs.declared.lifecycles.Lifecycle.{Lifecycle}
 use Rattle.stream_catalog.specs.declared.answers.CatalogError.{CatalogError}
 use Rattle.stream_catalog.specs.declared.answers.CatalogError.TheVariants.{NoSuchName, NameTaken, NoTemplate, Reserved, Limit, TimeOver, ChangedField, NoMemory}

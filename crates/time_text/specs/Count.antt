@@ -1,6 +1,6 @@
 -- The numbers of intervals.
 use Rattle.std.specs.Prelude.{ℕ, Bool, ◌&&◌, not, ◌==◌, nat_le, unsigned_abs, List, length, slice_index}
-use Rattle.time_text.specs.Instant.{last_instant}
+use Rattle.edge_face.specs.Limits.{last_instant}
 
 -- the longest interval, in milliseconds: as many as the last instant is behind the first
 abbrev pub longest : ℕ

@@ -4,12 +4,9 @@ use Rattle.std.specs.List.{position_or_len}
 use Rattle.std.specs.Str.{all_ascii_digits}
 use Rattle.std.specs.Str.Parse.{digits_value}
 use Rattle.jiff_core.specs.Calendar.{IsBetween}
+use Rattle.edge_face.specs.Limits.{last_instant}
 use Rattle.time_text.specs.Shape.{◌>>=◌, has_shape, number}
 use Rattle.time_text.specs.Day.{day_number}
-
--- the last millisecond of the year 9999
-abbrev pub last_instant : ℤ
-last_instant = pos 253_402_300_799_999
 
 -- a number of milliseconds since 1970-01-01T00:00:00Z, up to the last one of the year 9999
 abbrev pub IsInstant : ℤ → Type 0

@@ -3,7 +3,8 @@ use Rattle.std.specs.Prelude.{ℕ, ◌*◌, if◌then◌else◌, List, take, dro
 use Rattle.std.specs.Int.{int_max, int_min}
 use Rattle.time_text.specs.Shape.{has_shape}
 use Rattle.time_text.specs.Unit.{unit_ms}
-use Rattle.time_text.specs.Instant.{instant_of, last_instant}
+use Rattle.edge_face.specs.Limits.{last_instant}
+use Rattle.time_text.specs.Instant.{instant_of}
 use Rattle.time_text.specs.Interval.{interval_of}
 
 -- the nearest instant

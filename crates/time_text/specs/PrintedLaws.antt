@@ -14,7 +14,8 @@ use Rattle.jiff_core.specs.Calendar.{days_in_month}
 use Rattle.jiff_core.proofs.CalendarLemmas.{days_in_month_bounds}
 use Rattle.time_text.specs.Shape.{has_shape, number}
 use Rattle.time_text.specs.Day.{day_number, year_of, month_of, day_of_month}
-use Rattle.time_text.specs.Instant.{IsInstant, last_instant, day_of, clock, clock_of, exact_clock_of, is_fraction, thousandths, offset_of, begins_offset, offset_place, date_time_of, written_of, instant_of}
+use Rattle.edge_face.specs.Limits.{last_instant}
+use Rattle.time_text.specs.Instant.{IsInstant, day_of, clock, clock_of, exact_clock_of, is_fraction, thousandths, offset_of, begins_offset, offset_place, date_time_of, written_of, instant_of}
 use Rattle.time_text.specs.Laws.{PrintedReadsBack, PrintedDatesAreCivil}
 use Rattle.time_text.specs.Printed.{two_digits, three_digits, four_digits, date_text, clock_text, instant_text}
 use Rattle.time_text.specs.DayLaws.{civil_of_day, IsCivilOf}

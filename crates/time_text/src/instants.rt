@@ -6,12 +6,10 @@ ghost use Rattle.jiff_core.specs.Calendar.{IsBetween, IsEpochDay};
 use crate::clocks::{clock_of, offset_of};
 use crate::days::day_of;
 use crate::shapes::{are_digits, whole_number};
+use edge_face::LAST_INSTANT;
 use thiserror::Error;
 
 const DAY: i64 = 86_400_000;
-
-/// The last millisecond of the year 9999, since 1970 began in UTC.
-pub const LAST_INSTANT: i64 = 253_402_300_799_999;
 
 /// A text that is no instant.
 #[derive(Clone, Copy, Debug, PartialEq, Eq, Error)]

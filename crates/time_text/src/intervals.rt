@@ -9,7 +9,7 @@ ghost use Rattle.time_text.specs.Bucket.{bucket_start};
 ghost use Rattle.time_text.specs.Unit.{unit_ms};
 
 use crate::Unit;
-use crate::instants::LAST_INSTANT;
+use edge_face::LAST_INSTANT;
 use crate::shapes::whole_number;
 use std::fmt;
 use thiserror::Error;

@@ -12,7 +12,7 @@ mod printing;
 mod shapes;
 mod units;
 
-pub use instants::{LAST_INSTANT, NotInstant, is_instant, read_instant};
+pub use instants::{NotInstant, is_instant, read_instant};
 pub use intervals::{Interval, LONGEST_INTERVAL, NotInterval};
 pub use laws::{
     bucket_is_greatest, buckets_nest, interval_reads_back, printed_dates_are_civil,

@@ -3,7 +3,8 @@ ghost use Rattle.time_text.specs.Instant.{IsInstant};
 ghost use Rattle.time_text.specs.Interval.{ms_of};
 ghost use Rattle.time_text.specs.Moment.{moment_of, cut};
 
-use crate::{Interval, LAST_INSTANT, NotInstant, read_instant};
+use crate::{Interval, NotInstant, read_instant};
+use edge_face::LAST_INSTANT;
 
 /// Reads a moment expression: an instant text, or `now`, `now+` or `now-` with an interval, cut to the
 /// range of instants.

@@ -1,7 +1,7 @@
 use Rattle.std.proofs.Common.{◌≡◌, length}
 use Rattle.std.specs.Ordering.{nat_cmp}
 use Rattle.std.specs.Cmp.Lexicographic.{slice_cmp}
-use Rattle.row_cells.proofs.words.bytes_order.Given as goal
+use Rattle.edge_face.proofs.words.bytes_order.Given as goal
 
 abbrev pub invariant-loop-pair : goal.invariant-loop-pair
 invariant-loop-pair l = slice_cmp nat_cmp l.fn.left l.fn.right ≡ slice_cmp nat_cmp l.left l.right

@@ -2,8 +2,8 @@ use Rattle.std.proofs.Common.{◌≡◌, arith, ap, sym, ◌∙◌}
 use Rattle.std.specs.Int.{w64, from_be_bytes}
 use Rattle.std.specs.Ordering.{ordering_then, nat_cmp}
 use Rattle.std.specs.Cmp.Lexicographic.{slice_cmp}
-use Rattle.row_cells.proofs.WordOrder.{word_order}
-use Rattle.row_cells.proofs.words.next_words.Goals as goal
+use Rattle.edge_face.proofs.WordOrder.{word_order}
+use Rattle.edge_face.proofs.words.next_words.Goals as goal
 
 pub returns-clause-compared : goal.returns-clause-compared
 returns-clause-compared c =

@@ -1,5 +1,5 @@
 -- Words of eight bytes, the highest first, compare as their bytes do.
-use Rattle.std.specs.Prelude.{◌≡◌, ℕ, suc, ◌+◌, ◌*◌, ◌<◌, List, [], ◌∷◌, ◌++◌, length}
+use Rattle.std.specs.Prelude.{◌≡◌, ℕ, zero, suc, ◌+◌, ◌*◌, ◌<◌, List, [], ◌∷◌, ◌++◌, length}
 use Rattle.std.specs.Int.{w64, from_be_bytes}
 use Rattle.std.specs.Ordering.{nat_cmp, ordering_then, MatchOrdering}
 use Rattle.std.specs.Cmp.{nat_cmp_is}
@@ -9,7 +9,6 @@ use Rattle.std.specs.declared.cmp.Ordering.TheVariants.{Less, Equal, Greater}
 use Rattle.std.proofs.Common.{refl, ap, sym, ◌∙◌, arith, get_or, take, drop}
 use Rattle.std.proofs.lemmas.Cmp.{ranked}
 use Rattle.std.proofs.lemmas.List.{take-append-drop, length-take}
-use Rattle.row_cells.proofs.Spelled.{small_take}
 
 then_assoc : (a b c : Ordering) → ordering_then (ordering_then a b) c ≡ ordering_then a (ordering_then b c)
 then_assoc Less b c = refl
@@ -29,6 +28,12 @@ digit_order a b x y p q = sym (nat_cmp_is (a * 256 + x) (b * 256 + y) (ordering_
 
 abbrev AreSmall : List ℕ → Type 0
 AreSmall xs = (i : ℕ) → get_or xs i 0 < 256
+
+small_take : (n : ℕ) (xs : List ℕ) → AreSmall xs → AreSmall (take n xs)
+small_take zero xs small i = omega arith
+small_take (suc n) [] small i = omega arith
+small_take (suc n) (x ∷ xs) small zero = small 0
+small_take (suc n) (x ∷ xs) small (suc i) = small_take n xs (λ k. small (suc k)) i
 
 -- the number that digits go on to spell
 abbrev onward : ℕ → List ℕ → ℕ
