@@ -9,7 +9,8 @@ use Rattle.std.proofs.lemmas.List.Elements.{All-head, All-tail, All-nil, All-con
 use Rattle.std.proofs.lemmas.List.Sums.{sum_by-append, sum_by-cons}
 use Rattle.column_pack.specs.Summary.{IsSummary, total_of}
 use Rattle.column_pack.specs.declared.summary.Summary.{Summary}
-use Rattle.fold_law.specs.Laws.{FoldLaws, fold_of, reach_of_items, fold_of-append, reach-fold_of}
+use Rattle.fold_law.specs.Laws.{FoldLaws, fold_of, reach_of_items}
+use Rattle.fold_law.specs.ListLaws.{fold_of-append, reach-fold_of}
 use Rattle.fold_law.specs.Gauges.{no_gauge, gauge_of_one, merge_gauges, reach_of_gauge}
 use Rattle.fold_law.specs.declared.measures.Gauge.{Gauge}
 use Rattle.fold_law.specs.declared.measures.Parts.{Parts}

@@ -4,7 +4,8 @@ use Rattle.row_cells.specs.declared.schemas.Field.{Field}
 use Rattle.row_cells.specs.declared.rows.Cell.{Cell}
 use Rattle.row_cells.specs.declared.rows.Cell.TheVariants.{Absent}
 use Rattle.row_cells.specs.declared.rows.Row.{Row}
-use Rattle.row_cells.specs.Each.{Each, Each-weaker}
+use Rattle.row_cells.specs.Each.{Each}
+use Rattle.row_cells.specs.EachLaws.{Each-weaker}
 use Rattle.downsample_fold.specs.Columns.{column_of, first_cell, other_cells, fold_column, fold_columns}
 use Rattle.downsample_fold.specs.Room.{ColumnHasRoom, RowsHaveRoom}
 use Rattle.downsample_fold.proofs.ColumnSteps.{drop_read}

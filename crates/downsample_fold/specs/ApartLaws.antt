@@ -9,7 +9,8 @@ use Rattle.std.proofs.lemmas.List.Elements.{filter-append}
 use Rattle.row_cells.specs.declared.schemas.Schema.{Schema}
 use Rattle.row_cells.specs.declared.rows.Row.{Row}
 use Rattle.row_cells.specs.Dimensions.{IsBefore}
-use Rattle.row_cells.specs.Each.{Each, Each-all, Each-both, Each-weaker, filter_all, filter_none}
+use Rattle.row_cells.specs.Each.{Each}
+use Rattle.row_cells.specs.EachLaws.{Each-all, Each-both, Each-weaker, filter_all, filter_none}
 use Rattle.row_cells.specs.Merging.{merge_of_rows}
 use Rattle.row_cells.specs.MergeLaws.{merge_of_rows-fold_of_row_left, merge_of_rows-fold_of_row_right}
 use Rattle.row_cells.specs.OrderLaws.{IsUpTo, insert_first, upto_from, in_row_order-each}

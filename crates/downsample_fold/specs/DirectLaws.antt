@@ -14,7 +14,8 @@ use Rattle.time_text.specs.Bucket.{bucket_start}
 use Rattle.row_cells.specs.declared.schemas.Schema.{Schema}
 use Rattle.row_cells.specs.declared.rows.Row.{Row}
 use Rattle.row_cells.specs.Merging.{merge_of_rows}
-use Rattle.row_cells.specs.Each.{Each, Each-weaker, Each-filter, filter_all, filter_none}
+use Rattle.row_cells.specs.Each.{Each}
+use Rattle.row_cells.specs.EachLaws.{Each-weaker, Each-filter, filter_all, filter_none}
 use Rattle.downsample_fold.specs.Conditions.{HaveCells}
 use Rattle.downsample_fold.specs.Places.{Place, place_of, same_place, places, rows_at}
 use Rattle.downsample_fold.specs.Direct.{fold_at, fold_in_order}

@@ -11,7 +11,8 @@ use Rattle.downsample_fold.specs.Places.{places, rows_at}
 use Rattle.downsample_fold.specs.Columns.{fold_columns, other_cells}
 use Rattle.downsample_fold.specs.Conditions.{HaveCells, AllAtStarts}
 use Rattle.downsample_fold.specs.Direct.{down, fold_at, fold_in_order}
-use Rattle.row_cells.specs.Each.{Each, Each-all}
+use Rattle.row_cells.specs.Each.{Each}
+use Rattle.row_cells.specs.EachLaws.{Each-all}
 use Rattle.row_cells.specs.SetLaws.{among_sorted, sorted_distinct, sorted_is}
 use Rattle.downsample_fold.specs.Laws.{FoldsAnyOrder, FoldsCompose, FoldsSorted, FoldsInOrder, FoldsAtStarts, FoldsFit, FoldsCountAll}
 use Rattle.row_cells.specs.OrderLaws.{in_order-ascends, in_row_order-each, in_row_order-ascends, in_row_order-same, documents-in_row_order}

@@ -11,7 +11,7 @@ use Rattle.row_cells.specs.Limits.{most_documents}
 use Rattle.row_cells.specs.Merging.{merge_of_rows}
 use Rattle.row_cells.specs.RowLists.{documents, AllFit}
 use Rattle.downsample_fold.specs.Conditions.{HaveCells}
-use Rattle.row_cells.specs.Each.{Each-weaker}
+use Rattle.row_cells.specs.EachLaws.{Each-weaker}
 use Rattle.downsample_fold.specs.Joined.{placed, put, joined, are_at_one}
 use Rattle.downsample_fold.specs.JoinedLaws.{documents-joined}
 

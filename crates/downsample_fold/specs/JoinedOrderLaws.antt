@@ -15,7 +15,8 @@ use Rattle.row_cells.specs.Merging.{merge_of_rows}
 use Rattle.row_cells.specs.Order.{row_cmp}
 use Rattle.row_cells.specs.RowLists.{AreInRowOrder}
 use Rattle.downsample_fold.specs.Conditions.{AllAtStarts}
-use Rattle.row_cells.specs.Each.{Each, Each-weaker, Each-all}
+use Rattle.row_cells.specs.Each.{Each}
+use Rattle.row_cells.specs.EachLaws.{Each-weaker, Each-all}
 use Rattle.row_cells.specs.OrderLaws.{IsUpTo, Ascend, row_cmp_total, tied_rows, upto_cases, upto_from}
 use Rattle.downsample_fold.specs.Joined.{placed, put, joined, are_at_one}
 use Rattle.downsample_fold.specs.JoinedLaws.{at_one_from, AtPlace, joined-places}

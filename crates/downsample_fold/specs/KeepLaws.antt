@@ -3,7 +3,8 @@ use Rattle.std.specs.Prelude.{ℕ, ◌+◌, ◌<◌, ◌≤◌, List, [], ◌∷
 use Rattle.std.proofs.Common.{◌∙◌, arith, inl, inr, subst, sym}
 use Rattle.row_cells.specs.declared.schemas.Schema.{Schema}
 use Rattle.row_cells.specs.declared.rows.Row.{Row}
-use Rattle.row_cells.specs.Each.{Each, Each-weaker}
+use Rattle.row_cells.specs.Each.{Each}
+use Rattle.row_cells.specs.EachLaws.{Each-weaker}
 use Rattle.row_cells.specs.Fitting.{Fits, dimensions_of, folded_form}
 use Rattle.row_cells.specs.KeyLaws.{key_bytes_injective}
 use Rattle.row_cells.specs.KeyedLaws.{schema_spells}

@@ -14,7 +14,8 @@ use Rattle.fold_law.specs.declared.counters.Rise.{Rise}
 use Rattle.fold_law.specs.declared.counters.Rising.{Rising}
 use Rattle.fold_law.specs.Gauges.{merge_gauges}
 use Rattle.std.specs.Str.{bytes_eq}
-use Rattle.fold_law.specs.Rises.{merge_risings, rising_laws}
+use Rattle.fold_law.specs.Rises.{merge_risings}
+use Rattle.fold_law.specs.RiseLaws.{rising_laws}
 use Rattle.downsample_fold.specs.TotalLaws.{folds_keep_totals}
 use Rattle.downsample_fold.specs.Columns.{cell_of}
 use Rattle.downsample_fold.specs.Totals.{IsFolded}

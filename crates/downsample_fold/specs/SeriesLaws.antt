@@ -14,7 +14,8 @@ use Rattle.row_cells.specs.RowLists.{in_row_order}
 use Rattle.downsample_fold.specs.Places.{Place, own_place, place_of, same_place, places, rows_at, rows_of, keys_of, has_key}
 use Rattle.downsample_fold.specs.Conditions.{HaveCells}
 use Rattle.downsample_fold.specs.Direct.{down, fold_at, fold_in_order}
-use Rattle.row_cells.specs.Each.{Each, Each-both, Each-weaker, Each-filter, Each-all, filter_all, filter_none}
+use Rattle.row_cells.specs.Each.{Each}
+use Rattle.row_cells.specs.EachLaws.{Each-both, Each-weaker, Each-filter, Each-all, filter_all, filter_none}
 use Rattle.downsample_fold.specs.Laws.{KeysAscend, SeriesAscend, FoldsSomePlaces, FoldsSomeSeries, FoldsTested, FoldsJoinSeries, FoldsJoinFirst, FoldsJoinNext, series_of}
 use Rattle.row_cells.specs.OrderLaws.{upto_cases, IsUpTo, Ascend, in_order-ascends, in_row_order-ascends, in_row_order-filter}
 use Rattle.downsample_fold.specs.Joined.{placed, put, joined, are_at_one}

@@ -9,7 +9,8 @@ use Rattle.row_cells.specs.declared.schemas.Schema.{Schema}
 use Rattle.row_cells.specs.declared.rows.Cell.{Cell}
 use Rattle.row_cells.specs.declared.rows.Cell.TheVariants.{Absent}
 use Rattle.row_cells.specs.declared.rows.Row.{Row}
-use Rattle.row_cells.specs.Each.{Each, Each-filter, Each-weaker}
+use Rattle.row_cells.specs.Each.{Each}
+use Rattle.row_cells.specs.EachLaws.{Each-filter, Each-weaker}
 use Rattle.row_cells.specs.Fitting.{Fits, folded_form}
 use Rattle.row_cells.specs.HeadLaws.{head_cell, head_cells, heads_are}
 use Rattle.row_cells.specs.Heads.{heads_in}

@@ -2,7 +2,8 @@
 use Rattle.std.proofs.Common.{◌≡◌, ℕ, ◌+◌, ◌<◌, ◌≤◌, List, [], ◌∷◌, ◌++◌, length, get_or, take, sym, ap, ◌∙◌, arith}
 use Rattle.std.proofs.lemmas.List.{take_more}
 use Rattle.std.proofs.lemmas.List.Sums.{sum_by_more_le}
-use Rattle.fold_law.specs.Laws.{FoldLaws, fold_of, reach_of_items, fold_of-push, reach-fold_of}
+use Rattle.fold_law.specs.Laws.{FoldLaws, fold_of, reach_of_items}
+use Rattle.fold_law.specs.ListLaws.{fold_of-push, reach-fold_of}
 
 module _ {F I : Type 0} {none : F} {merge : F → F → F} {reach : F → ℕ} (laws : FoldLaws none merge reach) (one : I → F) where
   pub fold_of-take_more : (xs : List I) (i : ℕ) (x : I) → i < length xs → x ≡ get_or xs i x → merge (fold_of none merge one (take i xs)) (one x) ≡ fold_of none merge one (take (i + 1) xs)

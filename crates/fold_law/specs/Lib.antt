@@ -1,5 +1,10 @@
 pub mod Laws
+pub mod ListLaws
 pub mod Gauges
+pub mod GaugeLaws
 pub mod Rises
+pub mod RiseLaws
 pub mod Lasts
+pub mod LastLaws
 pub mod Pairs
+pub mod PairLaws

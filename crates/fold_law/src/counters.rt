@@ -1,7 +1,8 @@
 //! Counters, which rise until they begin again.
 ghost use Rattle.std.specs.Prelude.{◌≡◌, ℕ, ◌+◌, ◌^◌, ◌≤◌};
 ghost use Rattle.fold_law.specs.Rises.{climb_of, join_rises, reach_of_rise};
-ghost use Rattle.fold_law.specs.Rises.{no_rise, rising_of_one, merge_risings, reach_of_rising, rising_laws};
+ghost use Rattle.fold_law.specs.Rises.{no_rise, rising_of_one, merge_risings, reach_of_rising};
+ghost use Rattle.fold_law.specs.RiseLaws.{rising_laws};
 
 use crate::Fold;
 

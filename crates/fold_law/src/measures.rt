@@ -1,7 +1,9 @@
 //! Gauges and counts of documents.
 ghost use Rattle.std.specs.Prelude.{◌≡◌, ℕ, ◌+◌, ◌^◌, ◌≤◌};
-ghost use Rattle.fold_law.specs.Gauges.{no_gauge, gauge_of_one, merge_gauges, reach_of_gauge, gauge_laws, join_parts, reach_of_parts};
-ghost use Rattle.fold_law.specs.Gauges.{no_count, count_of_one, merge_counts, reach_of_count, count_laws};
+ghost use Rattle.fold_law.specs.Gauges.{no_gauge, gauge_of_one, merge_gauges, reach_of_gauge, join_parts, reach_of_parts};
+ghost use Rattle.fold_law.specs.GaugeLaws.{gauge_laws};
+ghost use Rattle.fold_law.specs.Gauges.{no_count, count_of_one, merge_counts, reach_of_count};
+ghost use Rattle.fold_law.specs.GaugeLaws.{count_laws};
 
 use crate::Fold;
 

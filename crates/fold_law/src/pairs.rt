@@ -1,7 +1,9 @@
 //! The last present value, and two folds at once.
 ghost use Rattle.std.specs.Prelude.{◌≡◌, ℕ, ◌+◌};
-ghost use Rattle.fold_law.specs.Lasts.{no_last, last_of_one, merge_lasts, reach_of_last, last_laws};
-ghost use Rattle.fold_law.specs.Pairs.{both_of, both_of_one, merge_boths, reach_of_both, both_laws};
+ghost use Rattle.fold_law.specs.Lasts.{no_last, last_of_one, merge_lasts, reach_of_last};
+ghost use Rattle.fold_law.specs.LastLaws.{last_laws};
+ghost use Rattle.fold_law.specs.Pairs.{both_of, both_of_one, merge_boths, reach_of_both};
+ghost use Rattle.fold_law.specs.PairLaws.{both_laws};
 
 use crate::Fold;
 

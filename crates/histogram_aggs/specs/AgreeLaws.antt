@@ -16,7 +16,8 @@ use Rattle.row_cells.specs.declared.scalars.Scalar.{Scalar}
 use Rattle.row_cells.specs.declared.schemas.Role.{Role}
 use Rattle.row_cells.specs.declared.schemas.Role.TheVariants.{Dimension, Gauge, Counter}
 use Rattle.row_cells.specs.declared.schemas.Field.{Field}
-use Rattle.row_cells.specs.Each.{Each, Each-weaker, Each-all}
+use Rattle.row_cells.specs.Each.{Each}
+use Rattle.row_cells.specs.EachLaws.{Each-weaker, Each-all}
 use Rattle.downsample_fold.specs.Columns.{total_of}
 use Rattle.downsample_fold.specs.Measures.{IsRoleAt}
 use Rattle.histogram_aggs.specs.declared.aggs.AggKind.{AggKind}

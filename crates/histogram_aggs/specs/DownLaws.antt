@@ -9,12 +9,15 @@ use Rattle.time_text.specs.Bucket.{bucket_start}
 use Rattle.fold_law.specs.declared.measures.Gauge.{Gauge as GaugeFold}
 use Rattle.fold_law.specs.declared.measures.Parts.{Parts}
 use Rattle.fold_law.specs.Laws.{FoldLaws}
-use Rattle.fold_law.specs.Gauges.{no_gauge, merge_gauges, gauge_laws, join_present_parts, no_count, merge_counts, count_laws}
-use Rattle.fold_law.specs.Rises.{no_rise, merge_risings, rising_laws}
+use Rattle.fold_law.specs.Gauges.{no_gauge, merge_gauges, join_present_parts, no_count, merge_counts}
+use Rattle.fold_law.specs.GaugeLaws.{gauge_laws, count_laws}
+use Rattle.fold_law.specs.Rises.{no_rise, merge_risings}
+use Rattle.fold_law.specs.RiseLaws.{rising_laws}
 use Rattle.row_cells.specs.declared.schemas.Role.TheVariants.{Dimension}
 use Rattle.row_cells.specs.declared.schemas.Schema.{Schema}
 use Rattle.row_cells.specs.declared.rows.Row.{Row}
-use Rattle.row_cells.specs.Each.{Each, Each-weaker}
+use Rattle.row_cells.specs.Each.{Each}
+use Rattle.row_cells.specs.EachLaws.{Each-weaker}
 use Rattle.row_cells.specs.Merging.{merge_of_rows}
 use Rattle.row_cells.specs.Order.{row_cmp}
 use Rattle.row_cells.specs.RowLists.{documents, insert_row, in_row_order}

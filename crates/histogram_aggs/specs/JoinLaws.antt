@@ -9,9 +9,11 @@ use Rattle.time_text.specs.Bucket.{bucket_start}
 use Rattle.time_text.specs.BucketLaws.{nest}
 use Rattle.fold_law.specs.declared.measures.Gauge.{Gauge as GaugeFold}
 use Rattle.fold_law.specs.Laws.{FoldLaws}
-use Rattle.fold_law.specs.Gauges.{no_gauge, merge_gauges, gauge_laws}
+use Rattle.fold_law.specs.Gauges.{no_gauge, merge_gauges}
+use Rattle.fold_law.specs.GaugeLaws.{gauge_laws}
 use Rattle.row_cells.specs.declared.rows.Row.{Row}
-use Rattle.row_cells.specs.Each.{Each, Each-all}
+use Rattle.row_cells.specs.Each.{Each}
+use Rattle.row_cells.specs.EachLaws.{Each-all}
 use Rattle.row_cells.specs.PlaceLaws.{documents-append}
 use Rattle.row_cells.specs.RowLists.{documents}
 use Rattle.downsample_fold.specs.Totals.{total_over}

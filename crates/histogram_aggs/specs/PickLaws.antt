@@ -8,7 +8,8 @@ use Rattle.time_text.specs.Bucket.{bucket_start}
 use Rattle.row_cells.specs.declared.schemas.Role.TheVariants.{Gauge, Counter}
 use Rattle.row_cells.specs.declared.schemas.Field.{Field}
 use Rattle.downsample_fold.specs.Measures.{IsRoleAt}
-use Rattle.row_cells.specs.Each.{Each, Each-filter, Each-all, filter_all}
+use Rattle.row_cells.specs.Each.{Each}
+use Rattle.row_cells.specs.EachLaws.{Each-filter, Each-all, filter_all}
 use Rattle.histogram_aggs.specs.Sets.{ascending, Among}
 use Rattle.histogram_aggs.specs.SetLaws.{among-left, among-right, among-split, same-sets, has, has-from, has-to}
 use Rattle.histogram_aggs.specs.Samples.{Sample, documents_in}

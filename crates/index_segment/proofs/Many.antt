@@ -5,7 +5,8 @@ use Rattle.std.proofs.Common.{refl, ap, sym, subst, ◌∙◌, arith, append_ass
 use Rattle.std.proofs.lemmas.List.{append-nil}
 use Rattle.row_cells.specs.declared.schemas.Schema.{Schema}
 use Rattle.row_cells.specs.declared.rows.Row.{Row}
-use Rattle.row_cells.specs.Each.{Each, Each-all, Each-both}
+use Rattle.row_cells.specs.Each.{Each}
+use Rattle.row_cells.specs.EachLaws.{Each-all, Each-both}
 use Rattle.row_cells.specs.Limits.{most_documents}
 use Rattle.row_cells.specs.OrderLaws.{documents-in_row_order, in_row_order-ascends, in_row_order-each, in_row_order-same}
 use Rattle.row_cells.specs.PlaceLaws.{documents-append, each_append, in_row_order-append_left}

@@ -4,7 +4,7 @@ use Rattle.std.proofs.Common.{subst, arith}
 use Rattle.std.proofs.lemmas.List.{length-map}
 use Rattle.std.proofs.lemmas.Int.{ints}
 use Rattle.fold_law.specs.declared.measures.Parts.{Parts}
-use Rattle.fold_law.specs.Gauges.{within_abs}
+use Rattle.fold_law.specs.GaugeLaws.{within_abs}
 use Rattle.row_cells.specs.Limits.{most_documents}
 use Rattle.row_cells.specs.Each.{Each}
 use Rattle.row_cells.specs.declared.schemas.FieldType.{FieldType}

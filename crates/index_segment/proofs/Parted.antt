@@ -4,7 +4,7 @@ use Rattle.std.specs.declared.cmp.Ordering.TheVariants.{Less}
 use Rattle.std.proofs.Common.{arith}
 use Rattle.row_cells.specs.declared.schemas.Schema.{Schema}
 use Rattle.row_cells.specs.declared.rows.Row.{Row}
-use Rattle.row_cells.specs.Each.{Each-weaker}
+use Rattle.row_cells.specs.EachLaws.{Each-weaker}
 use Rattle.row_cells.specs.Fitting.{Fits}
 use Rattle.row_cells.specs.KeyedRows.{AreRowsOf, IsRowOf}
 use Rattle.row_cells.specs.Order.{row_cmp}

@@ -8,7 +8,8 @@ use Rattle.std.proofs.Common.{refl, ap, sym, subst, ◌∙◌, arith, length-dro
 use Rattle.std.proofs.lemmas.Cmp.{nat_list_cmp_total, tied_itself}
 use Rattle.std.proofs.lemmas.List.{take-append-drop, take-map, drop-map, length-take}
 use Rattle.row_cells.specs.declared.rows.Row.{Row}
-use Rattle.row_cells.specs.Each.{Each, Each-weaker}
+use Rattle.row_cells.specs.Each.{Each}
+use Rattle.row_cells.specs.EachLaws.{Each-weaker}
 use Rattle.row_cells.specs.Order.{row_cmp}
 use Rattle.row_cells.specs.RowLists.{AllAfter, AreInRowOrder}
 use Rattle.index_segment.specs.Directory.{Run, run_of, runs_of, row_keys, same_in_front, with_key}

@@ -1,8 +1,8 @@
 //! Cells of rows, and what rows may stand in an index.
 use crate::rows::{case_rows, row_of, schema_at};
 use crate::shown::ok_row;
-use probe_case::{Trial, is_set, number_or, part};
 use edge_face::bytes_order;
+use probe_case::{Trial, is_set, number_or, part};
 use row_cells::{Cell, Schema, copy_row, fit_cells, head_row};
 use serde_json::Value;
 use series_id::are_rows_of;

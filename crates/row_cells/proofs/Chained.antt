@@ -2,7 +2,7 @@
 use Rattle.std.specs.Prelude.{◌≡◌, ◌↔◌, List, [], ◌∷◌}
 use Rattle.std.specs.declared.cmp.Ordering.TheVariants.{Less}
 use Rattle.row_cells.specs.declared.rows.Row.{Row}
-use Rattle.row_cells.specs.Each.{Each-weaker}
+use Rattle.row_cells.specs.EachLaws.{Each-weaker}
 use Rattle.row_cells.specs.Order.{row_cmp}
 use Rattle.row_cells.specs.OrderLaws.{row_cmp_total}
 use Rattle.row_cells.specs.RowLists.{AllAfter, AreBehind, AreInRowOrder}

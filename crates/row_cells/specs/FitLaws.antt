@@ -15,8 +15,10 @@ use Rattle.row_cells.specs.declared.rows.Cell.TheVariants.{Absent, One, Many, Ga
 use Rattle.row_cells.specs.declared.rows.Row.{Row}
 use Rattle.fold_law.specs.declared.measures.Parts.{Parts}
 use Rattle.fold_law.specs.declared.counters.Rise.{Rise}
-use Rattle.fold_law.specs.Gauges.{join_parts, join_present_parts, reach_of_parts, unsigned_abs-add, within_abs, abs_above}
-use Rattle.fold_law.specs.Rises.{climb_of, join_rises, join_present_rises, reach_of_rise, rise_of_value, unsigned_abs-climb_of}
+use Rattle.fold_law.specs.Gauges.{join_parts, join_present_parts, reach_of_parts}
+use Rattle.fold_law.specs.GaugeLaws.{unsigned_abs-add, within_abs, abs_above}
+use Rattle.fold_law.specs.Rises.{climb_of, join_rises, join_present_rises, reach_of_rise, rise_of_value}
+use Rattle.fold_law.specs.RiseLaws.{unsigned_abs-climb_of}
 use Rattle.row_cells.specs.Dimensions.{Dimension, key_bytes}
 use Rattle.row_cells.specs.Fitting.{IsNumberOf, IsValueOf, PartsFit, IsAggregate, RiseFits, LabelFits, RawGaugeFits, FoldedGaugeFits, GaugeFits, PlainCounterFits, RisenCounterFits, CounterFits, CellFits, CellsFit, with_dimension, dimensions_of, Fits, folded_form, FitsEither}
 use Rattle.row_cells.specs.Limits.{most_documents}

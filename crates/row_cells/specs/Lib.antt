@@ -1,5 +1,6 @@
 pub mod Dimensions
 pub mod Each
+pub mod EachLaws
 pub mod Fitting
 pub mod FitLaws
 pub mod FormLaws

@@ -10,8 +10,10 @@ use Rattle.row_cells.specs.declared.rows.Cell.TheVariants.{Absent, One, Many, Ga
 use Rattle.row_cells.specs.declared.rows.Row.{Row}
 use Rattle.fold_law.specs.declared.measures.Parts.{Parts}
 use Rattle.fold_law.specs.declared.counters.Rise.{Rise}
-use Rattle.fold_law.specs.Gauges.{join_present_parts, gauge_laws}
-use Rattle.fold_law.specs.Rises.{join_present_rises, rising_laws}
+use Rattle.fold_law.specs.Gauges.{join_present_parts}
+use Rattle.fold_law.specs.GaugeLaws.{gauge_laws}
+use Rattle.fold_law.specs.Rises.{join_present_rises}
+use Rattle.fold_law.specs.RiseLaws.{rising_laws}
 use Rattle.row_cells.specs.Merging.{parts_of, cell_of_parts, rise_of, cell_of_rise, last_cell, merge_cell, fold_cell, merge_cells, fold_cells, merge_of_rows, fold_of_row}
 
 parts_of-cell_of_parts : (p : Option Parts) → parts_of (cell_of_parts p) ≡ p

@@ -13,7 +13,8 @@ use Rattle.std.proofs.lemmas.Map.Text.{is_eq-slice_cmp}
 use Rattle.std.proofs.lemmas.Slice.Eq.{bytes_eq-Decides}
 use Rattle.row_cells.specs.declared.rows.Row.{Row}
 use Rattle.row_cells.specs.Order.{row_cmp}
-use Rattle.row_cells.specs.Each.{Each, Each-weaker, Each-filter}
+use Rattle.row_cells.specs.Each.{Each}
+use Rattle.row_cells.specs.EachLaws.{Each-weaker, Each-filter}
 use Rattle.row_cells.specs.RowLists.{AreInRowOrder, insert_row, in_row_order, documents}
 
 pub row_cmp_total : IsTotalOrder row_cmp

@@ -12,7 +12,8 @@ use Rattle.std.proofs.lemmas.Bool.{and_from, both_ways, cond-true, cond-false}
 use Rattle.std.proofs.lemmas.Bool.Decides.{Decides-int_eq}
 use Rattle.std.proofs.lemmas.Slice.Eq.{bytes_eq-Decides}
 use Rattle.row_cells.specs.declared.rows.Row.{Row}
-use Rattle.row_cells.specs.Each.{Each, Each-filter, Each-weaker}
+use Rattle.row_cells.specs.Each.{Each}
+use Rattle.row_cells.specs.EachLaws.{Each-filter, Each-weaker}
 use Rattle.row_cells.specs.Order.{row_cmp}
 use Rattle.row_cells.specs.RowLists.{AreApart, AreInRowOrder, AreDistinct, IsAmong, has_place, insert_row, in_row_order, documents}
 use Rattle.row_cells.specs.OrderLaws.{IsUpTo, insert_first, row_cmp_total, tied_rows, in_order-ascends, in_row_order-ascends, in_row_order-same, upto_chain, upto_of_le}

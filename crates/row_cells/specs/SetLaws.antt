@@ -6,7 +6,8 @@ use Rattle.std.specs.declared.cmp.Ordering.{Ordering}
 use Rattle.std.specs.declared.cmp.Ordering.TheVariants.{Less, Equal, Greater}
 use Rattle.std.proofs.Common.{refl, ap, ◌∙◌, sym, subst, inl, inr}
 use Rattle.row_cells.specs.declared.rows.Row.{Row}
-use Rattle.row_cells.specs.Each.{Each, Each-weaker}
+use Rattle.row_cells.specs.Each.{Each}
+use Rattle.row_cells.specs.EachLaws.{Each-weaker}
 use Rattle.row_cells.specs.Order.{row_cmp}
 use Rattle.row_cells.specs.RowLists.{AllAfter, AreInRowOrder, insert_row, in_row_order, IsAmong, AreDistinct}
 use Rattle.row_cells.specs.OrderLaws.{row_cmp_total, insert_each, in_row_order-each}

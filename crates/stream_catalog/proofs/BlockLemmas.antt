@@ -3,7 +3,7 @@ use Rattle.std.specs.Prelude.{◌≡◌, ℕ, ◌<◌, ◌⊎◌, Bool, List, le
 use Rattle.std.specs.Option.{option_map}
 use Rattle.std.proofs.Common.{refl, sym, subst}
 use Rattle.std.proofs.lemmas.Slice.Eq.{bytes_eq-Decides}
-use Rattle.row_cells.specs.Each.{Each-weaker}
+use Rattle.row_cells.specs.EachLaws.{Each-weaker}
 use Rattle.time_text.specs.declared.intervals.Interval.{Interval}
 use Rattle.downsample_fold.specs.Laws.{series_of}
 use Rattle.stream_catalog.specs.declared.facts.HeldIndex.{HeldIndex}

@@ -4,7 +4,8 @@ use Rattle.std.proofs.Common.{arith}
 use Rattle.std.proofs.lemmas.Int.{ints}
 use Rattle.row_cells.specs.declared.schemas.Schema.{Schema}
 use Rattle.row_cells.specs.declared.rows.Row.{Row}
-use Rattle.row_cells.specs.Each.{Each, Each-filter}
+use Rattle.row_cells.specs.Each.{Each}
+use Rattle.row_cells.specs.EachLaws.{Each-filter}
 use Rattle.row_cells.specs.RowLists.{in_row_order}
 use Rattle.time_text.specs.Bucket.{bucket_start}
 use Rattle.time_text.specs.Instant.{IsInstant}

@@ -10,7 +10,8 @@ use Rattle.std.proofs.Math.Nat.{zero-add}
 use Rattle.std.proofs.lemmas.Bool.{both_ways, false_from_ne_true}
 use Rattle.std.proofs.lemmas.Slice.Eq.{bytes_eq-Decides}
 use Rattle.std.proofs.lemmas.Map.Lookups.{exact_bytes}
-use Rattle.row_cells.specs.Each.{Each, Each-weaker}
+use Rattle.row_cells.specs.Each.{Each}
+use Rattle.row_cells.specs.EachLaws.{Each-weaker}
 use Rattle.row_cells.specs.Dimensions.{IsBefore}
 use Rattle.downsample_fold.specs.Laws.{KeysAscend}
 use Rattle.stream_catalog.specs.Lists.{named, updated, inserted, without}

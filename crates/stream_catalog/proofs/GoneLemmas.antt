@@ -3,7 +3,8 @@ use Rattle.std.specs.Prelude.{◌≡◌, ℕ, suc, ◌+◌, ◌≤◌, ◌||◌,
 use Rattle.std.specs.List.{flat_map, find, list_any}
 use Rattle.std.proofs.Common.{refl, ap, ◌∙◌, sym, subst, arith}
 use Rattle.std.proofs.lemmas.List.{length-map}
-use Rattle.row_cells.specs.Each.{Each, Each-weaker, Each-both, Each-filter}
+use Rattle.row_cells.specs.Each.{Each}
+use Rattle.row_cells.specs.EachLaws.{Each-weaker, Each-both, Each-filter}
 use Rattle.downsample_fold.specs.Laws.{KeysAscend}
 use Rattle.stream_catalog.specs.declared.answers.CatalogError.TheVariants.{NoSuchName}
 use Rattle.stream_catalog.specs.declared.facts.HeldIndex.{HeldIndex}

@@ -9,7 +9,8 @@ use Rattle.std.proofs.lemmas.Bool.{leb-false, false_from_ne_true}
 use Rattle.std.proofs.lemmas.Slice.Eq.{bytes_eq-Decides}
 use Rattle.row_cells.specs.declared.schemas.Field.{Field}
 use Rattle.row_cells.specs.Dimensions.{IsBefore}
-use Rattle.row_cells.specs.Each.{Each, Each-weaker, Each-both}
+use Rattle.row_cells.specs.Each.{Each}
+use Rattle.row_cells.specs.EachLaws.{Each-weaker, Each-both}
 use Rattle.row_cells.specs.Fitting.{FieldsAscendAfter}
 use Rattle.row_cells.specs.Joining.{FieldsAgree}
 use Rattle.row_cells.specs.JoinLaws.{in_after}

@@ -8,7 +8,8 @@ use Rattle.std.proofs.lemmas.Bool.{and_parts, both_ways, false_from_ne_true, not
 use Rattle.std.proofs.lemmas.Int.{ints}
 use Rattle.std.proofs.lemmas.Slice.Eq.{bytes_eq-Decides}
 use Rattle.row_cells.specs.Dimensions.{IsBefore}
-use Rattle.row_cells.specs.Each.{Each, Each-weaker, Each-both}
+use Rattle.row_cells.specs.Each.{Each}
+use Rattle.row_cells.specs.EachLaws.{Each-weaker, Each-both}
 use Rattle.time_text.specs.Instant.{IsInstant}
 use Rattle.time_text.specs.declared.intervals.Interval.{Interval}
 use Rattle.downsample_fold.specs.Intervals.{interval_fault}

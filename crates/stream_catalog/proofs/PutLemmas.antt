@@ -7,7 +7,8 @@ use Rattle.std.proofs.lemmas.Bool.{and_parts, both_ways, leb-false}
 use Rattle.std.proofs.lemmas.Slice.Eq.{bytes_eq-Decides}
 use Rattle.row_cells.specs.declared.rows.Row.{Row}
 use Rattle.row_cells.specs.declared.schemas.Schema.{Schema}
-use Rattle.row_cells.specs.Each.{Each, Each-both}
+use Rattle.row_cells.specs.Each.{Each}
+use Rattle.row_cells.specs.EachLaws.{Each-both}
 use Rattle.row_cells.specs.RowLists.{documents}
 use Rattle.time_text.specs.declared.intervals.Interval.{Interval}
 use Rattle.row_cells.specs.OrderLaws.{each_push, documents-push}

@@ -7,7 +7,8 @@ use Rattle.std.proofs.Common.{refl, ap, ◌∙◌, sym, subst, arith, length-app
 use Rattle.std.proofs.lemmas.Bool.{leb-false}
 use Rattle.std.proofs.lemmas.Int.{ints}
 use Rattle.std.proofs.lemmas.Slice.Eq.{bytes_eq-Decides}
-use Rattle.row_cells.specs.Each.{Each, Each-weaker}
+use Rattle.row_cells.specs.Each.{Each}
+use Rattle.row_cells.specs.EachLaws.{Each-weaker}
 use Rattle.edge_face.specs.Limits.{last_instant}
 use Rattle.time_text.specs.Instant.{IsInstant}
 use Rattle.downsample_fold.specs.Laws.{KeysAscend}

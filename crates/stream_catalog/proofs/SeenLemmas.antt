@@ -4,7 +4,8 @@ use Rattle.std.proofs.Common.{ap, ◌∙◌, sym, subst, inl, inr}
 use Rattle.std.proofs.Math.Nat.{mod_self}
 use Rattle.row_cells.specs.declared.schemas.Schema.{Schema}
 use Rattle.row_cells.specs.declared.rows.Row.{Row}
-use Rattle.row_cells.specs.Each.{Each, Each-weaker, Each-both}
+use Rattle.row_cells.specs.Each.{Each}
+use Rattle.row_cells.specs.EachLaws.{Each-weaker, Each-both}
 use Rattle.row_cells.specs.Fitting.{Fits, folded_form}
 use Rattle.row_cells.specs.Mapped.{IsMapped}
 use Rattle.row_cells.specs.RowLists.{AreInRowOrder, in_row_order, AllFit, documents}

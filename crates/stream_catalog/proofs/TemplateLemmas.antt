@@ -8,7 +8,8 @@ use Rattle.std.proofs.lemmas.Slice.Eq.{bytes_eq-Decides}
 use Rattle.row_cells.specs.declared.schemas.FieldType.{FieldType}
 use Rattle.row_cells.specs.declared.schemas.Role.{Role}
 use Rattle.row_cells.specs.declared.schemas.Field.{Field}
-use Rattle.row_cells.specs.Each.{Each, Each-weaker, Each-both, Each-filter}
+use Rattle.row_cells.specs.Each.{Each}
+use Rattle.row_cells.specs.EachLaws.{Each-weaker, Each-both, Each-filter}
 use Rattle.row_cells.specs.Joining.{IsIn, FieldsAgree}
 use Rattle.ts_mapping.specs.declared.templates.Template.{Template}
 use Rattle.stream_catalog.specs.declared.answers.CatalogError.{CatalogError}

@@ -1,5 +1,5 @@
 use Rattle.std.proofs.Common.{◌∙◌, arith, take_all}
-use Rattle.fold_law.specs.Laws.{reach-fold_of}
+use Rattle.fold_law.specs.ListLaws.{reach-fold_of}
 use Rattle.fold_law.proofs.Steps.{fold_of-take_more, reach_of_items-more}
 use Rattle.fold_law.proofs.fold_all.Goals as goal
 

@@ -1,4 +1,4 @@
-use Rattle.fold_law.specs.Laws.{fold_of-append, reach-fold_of}
+use Rattle.fold_law.specs.ListLaws.{fold_of-append, reach-fold_of}
 use Rattle.fold_law.proofs.joined_folds.Goals as goal
 
 pub returns-clause-joined : goal.returns-clause-joined

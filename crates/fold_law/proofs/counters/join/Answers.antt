@@ -2,8 +2,9 @@ use Rattle.std.proofs.Common.{rules, arith, ◌≡◌, ◌≤◌, ◌+◌, ap}
 use Rattle.std.specs.Prelude.{ℤ, ◌+ℤ◌, unsigned_abs, FitsSigned}
 use Rattle.std.specs.Int.{w64, w128}
 use Rattle.std.proofs.lemmas.Int.{to_z-of_z, fits_signed_from_abs}
-use Rattle.fold_law.specs.Gauges.{unsigned_abs-add}
-use Rattle.fold_law.specs.Rises.{climb_of, join_rises, unsigned_abs-climb_of}
+use Rattle.fold_law.specs.GaugeLaws.{unsigned_abs-add}
+use Rattle.fold_law.specs.Rises.{climb_of, join_rises}
+use Rattle.fold_law.specs.RiseLaws.{unsigned_abs-climb_of}
 use Rattle.fold_law.specs.declared.counters.Rise.{Rise}
 use Rattle.fold_law.proofs.counters.join.Goals as goal
 

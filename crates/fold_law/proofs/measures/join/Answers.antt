@@ -2,7 +2,7 @@ use Rattle.std.proofs.Common.{rules, arith, ◌≡◌, ◌∙◌}
 use Rattle.std.specs.Prelude.{ℤ, ◌+ℤ◌, FitsSigned}
 use Rattle.std.specs.Int.{w64, w128, int_min, int_max}
 use Rattle.std.proofs.lemmas.Int.{to_z-of_z, fits_signed_from_abs}
-use Rattle.fold_law.specs.Gauges.{unsigned_abs-add}
+use Rattle.fold_law.specs.GaugeLaws.{unsigned_abs-add}
 use Rattle.fold_law.specs.Gauges.{join_parts}
 use Rattle.fold_law.specs.declared.measures.Parts.{Parts}
 use Rattle.fold_law.proofs.measures.join.Goals as goal

@@ -1,4 +1,4 @@
-use Rattle.row_cells.specs.Each.{Each-weaker}
+use Rattle.row_cells.specs.EachLaws.{Each-weaker}
 use Rattle.row_cells.specs.Fitting.{Fits}
 use Rattle.row_cells.specs.KeyedRows.{IsRowOf}
 use Rattle.probe_rows.proofs.folds.all_fit.Goals as goal

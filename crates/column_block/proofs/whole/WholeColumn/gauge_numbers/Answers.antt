@@ -1,7 +1,8 @@
 use Rattle.std.proofs.Common.{◌≡◌, ◌∙◌, ap, sym, arith, ◌≤◌, map}
 use Rattle.std.specs.Prelude.{slice_range}
 use Rattle.fold_law.specs.Laws.{fold_of}
-use Rattle.fold_law.specs.Gauges.{no_gauge, merge_gauges, gauge_of_one, gauge_laws}
+use Rattle.fold_law.specs.Gauges.{no_gauge, merge_gauges, gauge_of_one}
+use Rattle.fold_law.specs.GaugeLaws.{gauge_laws}
 use Rattle.column_block.specs.Presence.{present}
 use Rattle.column_block.specs.Ranges.{parts_of_one}
 use Rattle.packed_lists.specs.Laws.Placing.{range-none}
