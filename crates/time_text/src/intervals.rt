@@ -9,8 +9,8 @@ ghost use Rattle.time_text.specs.Bucket.{bucket_start};
 ghost use Rattle.time_text.specs.Unit.{unit_ms};
 
 use crate::Unit;
-use edge_face::LAST_INSTANT;
 use crate::shapes::whole_number;
+use edge_face::LAST_INSTANT;
 use std::fmt;
 use thiserror::Error;
 
