@@ -4,3 +4,4 @@ pub mod PassLemmas
 pub mod PiecesLemmas
 pub mod RunLemmas
 pub mod SourcesLemmas
+pub mod WholeLemmas

@@ -11,19 +11,20 @@ use Rattle.std.proofs.lemmas.Result.{err_from_is_err_and}
 use Rattle.edge_face.specs.Contents.{preceded}
 use Rattle.edge_face.specs.Limits.{line_limit, input_limit, body_limit}
 use Rattle.edge_face.specs.Lines.{piece_of, after_piece, pieces_of, line_of, EndsInNewline, EndsInput}
-use Rattle.edge_face.specs.Reading.{Reading, ShowsLine, IsTooLong, CauseOf, left_of}
+use Rattle.edge_face.specs.LinesLaws.{piece-none}
+use Rattle.edge_face.specs.Reading.{Reading, ShowsLine, IsTooLong, WaitTooLong, CauseOf, left_of}
 use Rattle.edge_face.specs.declared.reader.LineError.{LineError}
 use Rattle.edge_face.specs.declared.reader.LineError.TheVariants as line
 use Rattle.tsds_cli.specs.Script.{Event, Moment, Request}
 use Rattle.tsds_cli.specs.declared.script.Opening.{Opening}
 use Rattle.tsds_cli.specs.declared.script.Opening.TheVariants as opening
 use Rattle.tsds_cli.specs.declared.errors.RunError.{RunError}
-use Rattle.tsds_cli.specs.declared.errors.RunError.TheVariants.{Read, Write, TooLong, NoMemory}
+use Rattle.tsds_cli.specs.declared.errors.RunError.TheVariants.{Read, Write, Store, TooLong, NoMemory}
 use Rattle.tsds_cli.specs.Errors.{run_error_of}
 use Rattle.tsds_cli.specs.Script.{Place, between, within, closes, next_place, at_end, closed_from, events_from, whole_lines, is_empty, is_skipped, is_moment}
 use Rattle.tsds_cli.specs.Limits.{is_long_piece, is_long_place, is_over, long_from, fine_from, passed_from}
-use Rattle.tsds_cli.specs.Ahead.{Ahead, ahead_in, ahead_of, behind, Passed, IsAtEnd, Stopped, opened, opens}
-use Rattle.tsds_cli.proofs.PiecesLemmas.{pieces-split}
+use Rattle.tsds_cli.specs.Ahead.{Ahead, ahead_in, ahead_of, behind, Leads, Passed, PassesHere, IsAtEnd, Stopped, opened, opens}
+use Rattle.tsds_cli.proofs.PiecesLemmas.{pieces-split, strip-front, piece-front, after-front}
 
 -- two pieces in front of what is left
 pub preceded-preceded : (a b : List ℕ) (left : Option (List ℕ)) → preceded a (preceded b left) ≡ preceded (a ++ b) left
@@ -44,6 +45,11 @@ behind-behind one two (Some a) =
     let both : List Event → List Event → Option Ahead = λ e f. Some (record { events = e; fine = f; long = a.long }) in
     ap (λ e. both e (one ++ (two ++ a.fine))) (sym (append_assoc one two a.events)) ∙ ap (both ((one ++ two) ++ a.events)) (sym (append_assoc one two a.fine))
 
+behind-both : (one two : List Event) (a : Ahead) → behind one (behind two a) ≡ behind (one ++ two) a
+behind-both one two a =
+    let both : List Event → List Event → Ahead = λ e f. record { events = e; fine = f; long = a.long } in
+    ap (λ e. both e (one ++ (two ++ a.fine))) (sym (append_assoc one two a.events)) ∙ ap (both ((one ++ two) ++ a.events)) (sym (append_assoc one two a.fine))
+
 -- the same bytes lie ahead
 ahead_same : (place : Place) (now before : Reading) (new old : Option (List ℕ)) → left_of now new ≡ left_of before old → now.answered ≡ before.answered → ahead_of place now new ≡ ahead_of place before old
 ahead_same place now before new old same counted =
@@ -58,6 +64,7 @@ looked place before after old new kept counted still = record {
   closed = λ going more. refl;
   short = λ going more. ap (λ n. passed_from place n (pieces_of more)) (sym counted);
   ahead = sym (ahead_same place after before new old kept counted) ∙ behind-nothing (ahead_of place after new);
+  leads = λ going more. ap (λ n. ahead_in place n (pieces_of more)) (sym counted);
   still = still;
   counted = omega (arith, counted);
 }
@@ -72,6 +79,8 @@ passed-passed one two from middle to first second third a b c p q = record {
       ∙ ap (λ l. one ++ l) (q.closed going more) ∙ sym (append_assoc one two (closed_from to (whole_lines more)));
   short = λ going more. ap (λ l. passed_from from first.answered (pieces_of l)) (append_assoc p.gone q.gone more) ∙ p.short (q.still going) (q.gone ++ more) ∙ q.short going more;
   ahead = p.ahead ∙ ap (option_map (behind one)) q.ahead ∙ behind-behind one two (ahead_of to third c);
+  leads = λ going more. ap (λ l. ahead_in from first.answered (pieces_of l)) (append_assoc p.gone q.gone more) ∙ p.leads (q.still going) (q.gone ++ more)
+      ∙ ap (behind one) (q.leads going more) ∙ behind-both one two (ahead_in to third.answered (pieces_of more));
   still = λ going. p.still (q.still going);
   counted = omega (arith, p.counted, q.counted);
 }
@@ -123,6 +132,7 @@ line-passed place n line shown after left shows some is fits passed =
       closed = λ going more. by_how going shows.shown.how more;
       short = λ going more. held going shows.shown.how more;
       ahead = told left shows;
+      leads = λ going. leads_by going shows.shown.how;
       still = λ going. going;
       counted = omega arith;
     }))
@@ -148,6 +158,18 @@ line-passed place n line shown after left shows some is fits passed =
     by_how going (inl e) more = ap (closed_from place) (whole-front n shown.pending more e shows.shown.inside)
     by_how going (inr e) more = absurd (ends-not (sym e.source ∙ going))
 
+    leads_by : shown.ended ≡ false → EndsInNewline n shown.pending ⊎ EndsInput n shown.pending shown.ended
+        → Leads place (closes place (line_of (take n shown.pending))) shown.answered (next_place place (line_of (take n shown.pending))) (shown.answered + n) (take n shown.pending)
+    leads_by going (inr e) more = absurd (ends-not (sym e.source ∙ going))
+    leads_by going (inl e) more =
+        let piece : List ℕ = take n shown.pending in
+        let next : Place = next_place place (line_of piece) in
+        let inside : n ≤ length shown.pending = shows.shown.inside in
+        let count : length piece ≡ n = omega (arith, length-take n shown.pending) in
+        ap (ahead_in place shown.answered) (pieces-split (piece ++ more) piece more (e.piece more) (e.after more) (omega (arith, count, some)))
+        ∙ ahead-step place shown.answered piece (pieces_of more) (not-over place shown.answered piece shows.short (omega (arith, count, shows.within)) (sym (ap (λ l. is_long_place (next_place place l)) is) ∙ fits))
+        ∙ ap (λ k. behind (closes place (line_of piece)) (ahead_in next (shown.answered + k) (pieces_of more))) count
+
     told : (left : Option (List ℕ)) → ShowsLine n shown left → ahead_of place shown left ≡ option_map (behind (closes place (line_of (take n shown.pending)))) (ahead_of (next_place place (line_of (take n shown.pending))) (record { pending = drop n shown.pending; answered = shown.answered + n; refused = shown.refused; ended = shown.ended }) left)
     told None shows = refl
     told (Some rest) shows =
@@ -166,6 +188,7 @@ end-passed place n shown left shows zero = record {
   closed = λ going more. absurd (no (sym (ended shows.shown.how) ∙ going));
   short = λ going more. absurd (no (sym (ended shows.shown.how) ∙ going));
   ahead = told left shows;
+  leads = λ going more. absurd (no (sym (ended shows.shown.how) ∙ going));
   still = λ going. going;
   counted = omega arith;
 }
@@ -236,13 +259,35 @@ too_long place before (b ∷ all) bytes limit (inr past) =
     (ap (λ v. is_long_piece piece || (v || is_long_place (next_place place (line_of piece)))) (lt-ltb input_limit (before + length piece) past.1)
     ∙ or-true (is_long_piece piece) (is_long_place (next_place place (line_of piece))))
 
+-- the same of the bytes that wait, whatever follows them
+waits-long : (shown : Reading) (left : Option (List ℕ)) (bytes : ℕ) → WaitTooLong shown left bytes → shown.ended ≡ false → (more : List ℕ) → IsTooLong shown.answered (shown.pending ++ more) bytes
+waits-long shown left bytes (inl w) going more =
+    inl (omega (arith, strip-front shown.pending (piece_of more) w.0, w.1, ap (λ l. length (strip_last 10 l)) (piece-none shown.pending more w.0)), w.2)
+waits-long shown left bytes (inr p) going more = by p.shown.how
+  where
+    never : ◌≡◌ {A = Bool} true false → ⊥
+    never h = cc
+
+    by : EndsInNewline p.piece shown.pending ⊎ EndsInput p.piece shown.pending shown.ended → IsTooLong shown.answered (shown.pending ++ more) bytes
+    by (inr e) = absurd (never (sym e.source ∙ going))
+    by (inl e) =
+        let piece : piece_of (shown.pending ++ more) ≡ take p.piece shown.pending = piece-front p.piece shown.pending more e in
+        let inside : p.piece ≤ length shown.pending = p.shown.inside in
+        let same = ap (λ l. length (strip_last 10 l)) piece in
+        let count = ap length piece in
+        inr (omega (arith, p.short, same), omega (arith, p.past, count, length-take p.piece shown.pending, inside), p.bytes_is)
+
 -- why a refused line stops the script
 pub stopped-line : (from place : Place) (error : LineError) (before shown : Reading) (old left : Option (List ℕ)) (count now : ℕ) → Passed from [] place before shown old left → shown.answered ≤ input_limit → CauseOf error shown left count now
     → Stopped from (run_error_of error) before shown old left
 stopped-line from place line.Read before shown old left count now passed limit cause = record { place = place; passed = passed; why = (cause.0, cause.1, cause.3) }
-stopped-line from place (line.TooLong bytes) before shown old left count now passed limit cause = record { place = place; passed = passed; why = told left cause.0 }
+stopped-line from place (line.TooLong bytes) before shown old left count now passed limit cause = record {
+  place = place;
+  passed = passed;
+  why = (told left cause.0, λ going more. too_long place shown.answered (shown.pending ++ more) bytes limit (waits-long shown left bytes cause.1 going more));
+}
   where
-    told : (left : Option (List ℕ)) → IfSome (left_of shown left) (λ all. IsTooLong shown.answered all bytes) → IfSome (ahead_of place shown left) (λ ahead. (ahead.fine ≡ []) × (ahead.long ≡ true))
+    told : (left : Option (List ℕ)) → IfSome (left_of shown left) (λ all. IsTooLong shown.answered all bytes) → IfSome (ahead_of place shown left) PassesHere
     told None h = tt
     told (Some rest) h = too_long place shown.answered (shown.pending ++ rest) bytes limit h
 stopped-line from place line.NoMemory before shown old left count now passed limit cause = record { place = place; passed = passed; why = tt }
@@ -250,20 +295,29 @@ stopped-line from place line.NoMemory before shown old left count now passed lim
 -- a body that is too long with its next line
 pub stopped-body : (from : Place) (n : ℕ) (request body line : List ℕ) (before shown : Reading) (old left : Option (List ℕ)) → Passed from [] (within request body) before shown old left → ShowsLine n shown left → 0 < n → is_empty line ≡ false
     → line ≡ line_of (take n shown.pending) → body_limit < length (body ++ (line ++ 10 ∷ [])) → Stopped from TooLong before shown old left
-stopped-body from n request body line before shown old left passed shows some full is over = record { place = within request body; passed = passed; why = told left shows }
+stopped-body from n request body line before shown old left passed shows some full is over = record { place = within request body; passed = passed; why = (told left shows, λ going. waits going shows.shown.how) }
   where
-    told : (left : Option (List ℕ)) → ShowsLine n shown left → IfSome (ahead_of (within request body) shown left) (λ ahead. (ahead.fine ≡ []) × (ahead.long ≡ true))
-    told None shows = tt
-    told (Some rest) shows =
+    first : (bytes rest : List ℕ) → n ≤ length shown.pending → piece_of bytes ≡ take n shown.pending → after_piece bytes ≡ rest → PassesHere (ahead_in (within request body) shown.answered (pieces_of bytes))
+    first bytes rest inside piece_is rest_is =
         let piece : List ℕ = take n shown.pending in
-        let inside : n ≤ length shown.pending = shows.shown.inside in
         let count : length piece ≡ n = omega (arith, length-take n shown.pending) in
         let long : is_long_place (next_place (within request body) (line_of piece)) ≡ true =
         ap (λ l. is_long_place (next_place (within request body) l)) (sym is)
         ∙ ap (λ v. is_long_place (cond v between (within request (body ++ (line ++ 10 ∷ []))))) full
         ∙ lt-ltb body_limit (length (body ++ (line ++ 10 ∷ []))) over in
-        over-here (within request body) shown.answered (shown.pending ++ rest) piece (drop n shown.pending ++ rest) shows.shown.piece shows.shown.after (omega (arith, count, some))
+        over-here (within request body) shown.answered bytes piece rest piece_is rest_is (omega (arith, count, some))
         (ap (λ v. is_long_piece piece || (nat_lt input_limit (shown.answered + length piece) || v)) long ∙ or-last (is_long_piece piece) (nat_lt input_limit (shown.answered + length piece)))
+
+    told : (left : Option (List ℕ)) → ShowsLine n shown left → IfSome (ahead_of (within request body) shown left) PassesHere
+    told None shows = tt
+    told (Some rest) shows = first (shown.pending ++ rest) (drop n shown.pending ++ rest) shows.shown.inside shows.shown.piece shows.shown.after
+
+    never : ◌≡◌ {A = Bool} true false → ⊥
+    never h = cc
+
+    waits : shown.ended ≡ false → EndsInNewline n shown.pending ⊎ EndsInput n shown.pending shown.ended → (more : List ℕ) → PassesHere (ahead_in (within request body) shown.answered (pieces_of (shown.pending ++ more)))
+    waits going (inl e) more = first (shown.pending ++ more) (drop n shown.pending ++ more) shows.shown.inside (piece-front n shown.pending more e) (after-front n shown.pending more e)
+    waits going (inr e) more = absurd (never (sym e.source ∙ going))
 
 pub stopped-memory : (from place : Place) (before shown : Reading) (old left : Option (List ℕ)) → Passed from [] place before shown old left → Stopped from NoMemory before shown old left
 stopped-memory from place before shown old left passed = record { place = place; passed = passed; why = tt }
@@ -331,11 +385,12 @@ close-passed n request body line shown after left shows some line_is empty is =
 
 -- why a line isn't added to a body
 pub stopped-add : (from : Place) (error : RunError) (n : ℕ) (request body line : List ℕ) (before shown : Reading) (old left : Option (List ℕ)) → Passed from [] (within request body) before shown old left → ShowsLine n shown left → 0 < n → is_empty line ≡ false
-    → line ≡ line_of (take n shown.pending) → (error ≡ TooLong → body_limit < length (body ++ (line ++ 10 ∷ []))) → (error ≡ Read → ⊥) → (error ≡ Write → ⊥) → Stopped from error before shown old left
-stopped-add from Read n request body line before shown old left passed shows some full is over no_fault no_write = absurd (no_fault refl)
-stopped-add from TooLong n request body line before shown old left passed shows some full is over no_fault no_write = stopped-body from n request body line before shown old left passed shows some full is (over refl)
-stopped-add from NoMemory n request body line before shown old left passed shows some full is over no_fault no_write = stopped-memory from (within request body) before shown old left passed
-stopped-add from Write n request body line before shown old left passed shows some full is over no_fault no_write = absurd (no_write refl)
+    → line ≡ line_of (take n shown.pending) → (error ≡ TooLong → body_limit < length (body ++ (line ++ 10 ∷ []))) → (error ≡ Read → ⊥) → (error ≡ Write → ⊥) → (error ≡ Store → ⊥) → Stopped from error before shown old left
+stopped-add from Read n request body line before shown old left passed shows some full is over no_fault no_write no_store = absurd (no_fault refl)
+stopped-add from TooLong n request body line before shown old left passed shows some full is over no_fault no_write no_store = stopped-body from n request body line before shown old left passed shows some full is (over refl)
+stopped-add from NoMemory n request body line before shown old left passed shows some full is over no_fault no_write no_store = stopped-memory from (within request body) before shown old left passed
+stopped-add from Write n request body line before shown old left passed shows some full is over no_fault no_write no_store = absurd (no_write refl)
+stopped-add from Store n request body line before shown old left passed shows some full is over no_fault no_write no_store = absurd (no_store refl)
 
 -- the exit of a `?`
 pub err-stops : {T : Type 0} (from : Place) (r : Result T RunError) (e : RunError) (before after : Reading) (old new : Option (List ℕ)) → IsErrAnd r (λ y. y ≡ e) → Stopped from e before after old new → IfErr r (λ y. Stopped from y before after old new)

@@ -1,6 +1,10 @@
--- All pieces are the first one, and those of what follows it.
-use Rattle.std.proofs.Common.{◌≡◌, ◌∙◌, ℕ, ◌+◌, ◌<◌, ◌==◌, Bool, true, false, cond, List, [], ◌∷◌, ◌++◌, length, refl, ap, arith, length-append}
-use Rattle.edge_face.specs.Lines.{piece_of, after_piece, pieces_of, with_first}
+-- All pieces are the first one, and those of what follows it. Where the first one ends, whatever follows the bytes that wait.
+use Rattle.std.proofs.Common.{◌≡◌, ◌∙◌, ℕ, ◌+◌, ◌-◌, ◌<◌, ◌≤◌, ◌==◌, ◌&&◌, nat_lt, Bool, true, false, cond, List, [], ◌∷◌, ◌++◌, length, take, drop, refl, ap, sym, arith, length-append, length-take, append_assoc, append-nil}
+use Rattle.std.specs.List.{slice_index}
+use Rattle.std.specs.Io.BufRead.{strip_last, ends_with_byte}
+use Rattle.std.proofs.lemmas.Bool.{ne_eqb}
+use Rattle.std.proofs.lemmas.List.{take-append-drop}
+use Rattle.edge_face.specs.Lines.{piece_of, after_piece, pieces_of, with_first, HasNoNewline, EndsInNewline}
 
 -- a piece and what follows it are all
 pub piece-after : (bytes : List ℕ) → piece_of bytes ++ after_piece bytes ≡ bytes
@@ -32,3 +36,35 @@ pieces-split (b ∷ bytes) piece rest first after some = pieces-first b bytes �
 
 pub length-split : (bytes piece rest : List ℕ) → piece_of bytes ≡ piece → after_piece bytes ≡ rest → length bytes ≡ length piece + length rest
 length-split bytes piece rest first after = omega (arith, ap length (piece-after bytes), length-append (piece_of bytes) (after_piece bytes), ap length first, ap length after)
+
+and-false : (b : Bool) → (b && false) ≡ false
+and-false true = refl
+and-false false = refl
+
+pub not-ended : (b : ℕ) (bytes : List ℕ) → HasNoNewline (b ∷ bytes) → ends_with_byte 10 (b ∷ bytes) ≡ false
+not-ended b bytes none =
+    let all : List ℕ = b ∷ bytes in
+    let last : (slice_index all (length all - 1) == 10) ≡ false = ne_eqb (slice_index all (length all - 1)) 10 (none (length all - 1) (omega arith)) in
+    ap (λ v. nat_lt 0 (length all) && v) last ∙ and-false (nat_lt 0 (length all))
+
+-- bytes without a newline are all in the line of a piece that they begin
+pub strip-front : (waiting more : List ℕ) → HasNoNewline waiting → length waiting ≤ length (strip_last 10 (waiting ++ more))
+strip-front [] more none = omega arith
+strip-front (b ∷ bytes) [] none =
+    let all : List ℕ = b ∷ bytes in
+    let same : length (strip_last 10 (all ++ [])) ≡ length all = ap (λ l. length (strip_last 10 l)) (append-nil all) ∙ ap (λ v. length (cond v (take (length all - 1) all) all)) (not-ended b bytes none) in
+    omega (arith, same)
+strip-front (b ∷ bytes) (c ∷ more) none = by (ends_with_byte 10 ((b ∷ bytes) ++ c ∷ more))
+  where
+    by : (v : Bool) → length (b ∷ bytes) ≤ length (cond v (take (length ((b ∷ bytes) ++ c ∷ more) - 1) ((b ∷ bytes) ++ c ∷ more)) ((b ∷ bytes) ++ c ∷ more))
+    by true = omega (arith, length-take (length ((b ∷ bytes) ++ c ∷ more) - 1) ((b ∷ bytes) ++ c ∷ more), length-append (b ∷ bytes) (c ∷ more))
+    by false = omega (arith, length-append (b ∷ bytes) (c ∷ more))
+
+-- a piece that ends in a newline is the first, whatever follows the bytes that wait
+pub piece-front : (n : ℕ) (waiting more : List ℕ) → EndsInNewline n waiting → piece_of (waiting ++ more) ≡ take n waiting
+piece-front n waiting more e =
+    ap (λ l. piece_of (l ++ more)) (sym (take-append-drop n waiting)) ∙ ap piece_of (append_assoc (take n waiting) (drop n waiting) more) ∙ e.piece (drop n waiting ++ more)
+
+pub after-front : (n : ℕ) (waiting more : List ℕ) → EndsInNewline n waiting → after_piece (waiting ++ more) ≡ drop n waiting ++ more
+after-front n waiting more e =
+    ap (λ l. after_piece (l ++ more)) (sym (take-append-drop n waiting)) ∙ ap after_piece (append_assoc (take n waiting) (drop n waiting) more) ∙ e.after (drop n waiting ++ more)

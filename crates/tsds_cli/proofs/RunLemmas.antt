@@ -15,13 +15,17 @@ use Rattle.edge_face.specs.Lines.{pieces_of, line_of, with_first, HasNoNewline}
 use Rattle.edge_face.specs.Reading.{Reading, left_of}
 use Rattle.tsds_cli.specs.Script.{Event}
 use Rattle.tsds_cli.specs.declared.errors.RunError.{RunError}
-use Rattle.tsds_cli.specs.declared.errors.RunError.TheVariants.{Read, Write, TooLong, NoMemory}
+use Rattle.tsds_cli.specs.declared.errors.RunError.TheVariants.{Read, Write, Store, TooLong, NoMemory}
 use Rattle.tsds_cli.specs.Script.{Place, between, closed_of, events_of, closed_from, events_from, whole_lines, lines_of}
 use Rattle.tsds_cli.specs.Limits.{fine_of, is_too_long, is_over, is_long_piece, passed_from, IsShort}
-use Rattle.tsds_cli.specs.Ahead.{Ahead, ahead_in, ahead_of, behind, Passed, IsAtEnd, Stopped}
-use Rattle.tsds_cli.specs.Play.{Play, text_of, with_reply, replies, after_events, PutAll, IsBehind}
-use Rattle.tsds_cli.specs.Ends.{EndsBy, Broke, IsPut, Reached, IsFront, IsFine, IsNear, PutFront, PutPart, PutFine}
+use Rattle.tsds_cli.specs.Ahead.{Ahead, ahead_in, ahead_of, behind, Passed, PassesHere, IsAtEnd, Stopped}
+use Rattle.edge_face.specs.Table.{Table}
+use Rattle.tsds_cli.specs.declared.errors.ActError.TheVariants as act_error
+use Rattle.tsds_cli.specs.declared.errors.ActError.{ActError}
+use Rattle.tsds_cli.specs.Play.{Play, Act, Standing, text_of, with_reply, replies, after_events, written_by, last_written, IsToldAs, IsTable, IsWrittenBy, PutAll, IsBehind, IsPast, IsRefused}
+use Rattle.tsds_cli.specs.Ends.{EndsBy, Broke, IsPut, Reached, IsFront, IsFine, IsNear, IsStepped, IsUnmade, IsCutBehind, PutFront, PutUnkept, PutPart, PutFine, PutWhole}
 use Rattle.tsds_cli.proofs.PassLemmas.{passed-passed, preceded-preceded, preceded-nothing, short_piece}
+use Rattle.tsds_cli.proofs.PiecesLemmas.{not-ended}
 
 -- a reader that has read nothing
 abbrev pub fresh : Reading
@@ -45,16 +49,6 @@ pieces-none b [] none = ap (λ v. cond v ((b ∷ []) ∷ []) ((b ∷ []) ∷ [])
 pieces-none b (c ∷ bytes) none =
     ap (λ v. cond v ((b ∷ []) ∷ pieces_of (c ∷ bytes)) (with_first b (pieces_of (c ∷ bytes)))) (ne_eqb b 10 (none 0 (omega arith)))
     ∙ ap (with_first b) (pieces-none c bytes (λ k below. none (suc k) (omega arith)))
-
-and-false : (b : Bool) → (b && false) ≡ false
-and-false true = refl
-and-false false = refl
-
-not-ended : (b : ℕ) (bytes : List ℕ) → HasNoNewline (b ∷ bytes) → ends_with_byte 10 (b ∷ bytes) ≡ false
-not-ended b bytes none =
-    let all : List ℕ = b ∷ bytes in
-    let last : (slice_index all (length all - 1) == 10) ≡ false = ne_eqb (slice_index all (length all - 1)) 10 (none (length all - 1) (omega arith)) in
-    ap (λ v. nat_lt 0 (length all) && v) last ∙ and-false (nat_lt 0 (length all))
 
 pub none-whole : (bytes : List ℕ) → HasNoNewline bytes → whole_lines bytes ≡ []
 none-whole [] none = refl
@@ -152,10 +146,18 @@ front-next es e more script left f = record { taken = f.taken; taken_is = f.take
     by (inr h) = inr (h.0, under script h.1)
 
 -- the exit of a `?`
-pub err-ends : {S T : Type 0} (play : Play S) (start now : S) (r : Result T RunError) (e : RunError) (script left given0 given : Option (List ℕ)) → IsErrAnd r (λ y. y ≡ e) → EndsBy play start now e script left given0 given → IfErr r (λ y. EndsBy play start now y script left given0 given)
+pub err-ends : {S T : Type 0} (play : Play S) (start now : Standing S) (r : Result T RunError) (e : RunError) (script left given0 given : Option (List ℕ)) → IsErrAnd r (λ y. y ≡ e) → EndsBy play start now e script left given0 given → IfErr r (λ y. EndsBy play start now y script left given0 given)
 err-ends play start now r e script left given0 given exit ends =
     let answer = err_from_is_err_and r exit in
     subst (λ r. IfErr r (λ y. EndsBy play start now y script left given0 given)) (sym answer.1) (subst (λ y. EndsBy play start now y script left given0 given) (sym answer.2) ends)
+
+-- a table that was written, and then written or left
+table-more : {S : Type 0} (image : S → Table → Type 0) (wrote : Bool) (s : S) (was : Option S) (before middle now : Option Table) → IsTable image was before middle → IsTable image (cond wrote (Some s) None) middle now → IsTable image (cond wrote (Some s) was) before now
+table-more image false s was before middle now h moved = subst (λ t. IsTable image was before t) (sym moved) h
+table-more image true s None before middle now h told = subst (λ t. IsToldAs t now (image s)) h told
+table-more image true s (Some x) None middle now h told = subst (λ t. IsToldAs t now (image s)) h told
+table-more image true s (Some x) (Some b) None now h told = absurd h
+table-more image true s (Some x) (Some b) (Some m) now h told = told
 
 module _ {S : Type 0} (play : Play S) where
   pub replies-more : (s : S) (es : List Event) (e : Event) → concat (replies play s (es ++ e ∷ [])) ≡ concat (replies play s es) ++ text_of (play.act (after_events play s es) e).reply
@@ -170,12 +172,34 @@ module _ {S : Type 0} (play : Play S) where
   after-more s [] e = refl
   after-more s (x ∷ es) e = after-more (play.act s x).after es e
 
+  last-more : (s : S) (es : List Event) (e : Event) (was : Option S) → last_written play s (es ++ e ∷ []) was ≡ written_by (play.act (after_events play s es) e) (last_written play s es was)
+  last-more s [] e was = refl
+  last-more s (x ∷ es) e was = last-more (play.act s x).after es e (written_by (play.act s x) was)
+
+  -- the table behind one event more
+  written-more : (start now : Standing S) (table : Option Table) (es : List Event) (e : Event) → IsBehind play start now es → IsTable play.image (written_by (play.act now.state e) None) now.table table → IsWrittenBy play start table (es ++ e ∷ [])
+  written-more start now table es e b moved =
+      let act : Act S = play.act (after_events play start.state es) e in
+      let here : IsTable play.image (written_by act None) now.table table = subst (λ s. IsTable play.image (written_by (play.act s e) None) now.table table) b.state moved in
+      subst (λ w. IsTable play.image w start.table table) (sym (last-more start.state es e None))
+      (table-more play.image act.wrote act.stepped (last_written play start.state es None) start.table now.table table b.table here)
+
+  -- an event that was stepped, and one that was not
+  is-stepped : (start now next : Standing S) (es : List Event) (e : Event) → IsBehind play start now es → IsPast play now next e → IsStepped play start next es e
+  is-stepped start now next es e b past = record { stepped = past.0 ∙ ap (λ s. (play.act s e).stepped) b.state; table = written-more start now next.table es e b past.1 }
+
+  is-unmade : (start now next : Standing S) (es : List Event) (e : Event) (error : ActError) → IsBehind play start now es → IsRefused play now next e error → IsUnmade play start next es e error
+  is-unmade start now next es e error b refused = record {
+    left = subst (λ s. play.left s e error next.state) b.state refused.0;
+    table = subst (λ t. IsWrittenBy play start t es) (sym refused.1) b.table;
+  }
+
   -- before the first event
-  pub reached-none : (start : S) (reader : Reading) (script given0 : Option (List ℕ)) → reader ≡ fresh → Reached play start start fresh reader script script given0 given0
+  pub reached-none : (start : Standing S) (reader : Reading) (script given0 : Option (List ℕ)) → reader ≡ fresh → Reached play start start fresh reader script script given0 given0
   reached-none start reader script given0 is = record {
     done = [];
     bodies = All-nil IsShort;
-    state = refl;
+    state = record { state = refl; table = refl };
     put = given-nothing given0;
     passed = subst (λ r. Passed between [] between fresh r script script) (sym is) (record {
       gone = [];
@@ -183,6 +207,7 @@ module _ {S : Type 0} (play : Play S) where
       closed = λ going more. refl;
       short = λ going more. refl;
       ahead = none (ahead_of between fresh script);
+      leads = λ going more. refl;
       still = λ going. going;
       counted = omega arith;
     });
@@ -197,49 +222,67 @@ module _ {S : Type 0} (play : Play S) where
   bodies-more es e all one = All-append IsShort es (e ∷ []) all (All-cons IsShort e [] one (All-nil IsShort))
 
   -- one event more
-  pub one-more : (start now next : S) (reader reader' : Reading) (script left left' given0 given given' : Option (List ℕ)) (e : Event)
-      → Reached play start now fresh reader script left given0 given → Passed between (e ∷ []) between reader reader' left left' → IsShort e → next ≡ (play.act now e).after → given' ≡ appended given (text_of (play.act now e).reply)
-      → Reached play start next fresh reader' script left' given0 given'
-  one-more start now next reader reader' script left left' given0 given given' e r p body next_is put_is = record {
+  pub one-more : (start now next : Standing S) (reader reader' : Reading) (script left left' given0 given given' : Option (List ℕ)) (e : Event)
+      → Reached play start now fresh reader script left given0 given → Passed between (e ∷ []) between reader reader' left left' → IsShort e → next.state ≡ (play.act now.state e).after → IsTable play.image (written_by (play.act now.state e) None) now.table next.table
+      → given' ≡ appended given (text_of (play.act now.state e).reply) → Reached play start next fresh reader' script left' given0 given'
+  one-more start now next reader reader' script left left' given0 given given' e r p body next_is moved put_is = record {
     done = r.done ++ e ∷ [];
     bodies = bodies-more r.done e r.bodies body;
-    state = next_is ∙ ap (λ s. (play.act s e).after) r.state ∙ sym (after-more start r.done e);
-    put = put_is ∙ ap (λ g. appended g (text_of (play.act now e).reply)) r.put ∙ ap (λ s. appended (appended given0 (concat (replies play start r.done))) (text_of (play.act s e).reply)) r.state
-        ∙ given_twice given0 (concat (replies play start r.done)) (text_of (play.act (after_events play start r.done) e).reply) ∙ ap (appended given0) (sym (replies-more start r.done e));
+    state = record { state = next_is ∙ ap (λ s. (play.act s e).after) r.state.state ∙ sym (after-more start.state r.done e); table = written-more start now next.table r.done e r.state moved };
+    put = put_is ∙ ap (λ g. appended g (text_of (play.act now.state e).reply)) r.put ∙ ap (λ s. appended (appended given0 (concat (replies play start.state r.done))) (text_of (play.act s e).reply)) r.state.state
+        ∙ given_twice given0 (concat (replies play start.state r.done)) (text_of (play.act (after_events play start.state r.done) e).reply) ∙ ap (appended given0) (sym (replies-more start.state r.done e));
     passed = passed-passed r.done (e ∷ []) between between between fresh reader reader' script left left' r.passed p;
   }
 
   -- no memory before an event was read
-  pub front-of : (start now : S) (reader : Reading) (script left given0 given : Option (List ℕ)) → Reached play start now fresh reader script left given0 given → KnowsEnd reader.ended left → PutFront play start now script left given0 given
+  pub front-of : (start now : Standing S) (reader : Reading) (script left given0 given : Option (List ℕ)) → Reached play start now fresh reader script left given0 given → KnowsEnd reader.ended left → PutFront play start now script left given0 given
   front-of start now reader script left given0 given r knows =
       let f = fronts r.done between reader script left knows r.passed in
       record { done = r.done; more = f.0; front = f.1; fine = fine-front r.done between reader script left r.passed; bodies = r.bodies; put = r.put; state = inl r.state }
 
   -- no memory for an event that was read: nothing of it was put
-  front-before : (start now state : S) (reader reader' : Reading) (script left left' given0 given : Option (List ℕ)) (e : Event) → Reached play start now fresh reader script left given0 given → Passed between (e ∷ []) between reader reader' left left' → KnowsEnd reader'.ended left'
-      → play.left now e state ⊎ (state ≡ (play.act now e).stepped) → PutFront play start state script left' given0 given
-  front-before start now state reader reader' script left left' given0 given e r p knows near =
+  front-before : (start now next : Standing S) (reader reader' : Reading) (script left left' given0 given : Option (List ℕ)) (e : Event) → Reached play start now fresh reader script left given0 given → Passed between (e ∷ []) between reader reader' left left' → KnowsEnd reader'.ended left'
+      → IsShort e → IsRefused play now next e act_error.NoMemory ⊎ IsPast play now next e → PutFront play start next script left' given0 given
+  front-before start now next reader reader' script left left' given0 given e r p knows body near =
       let all = passed-passed r.done (e ∷ []) between between between fresh reader reader' script left left' r.passed p in
       let f = fronts (r.done ++ e ∷ []) between reader' script left' knows all in
       record { done = r.done; more = e ∷ f.0; front = front-next r.done e f.0 script left' f.1; fine = fine-front r.done between reader script left r.passed; bodies = r.bodies; put = r.put; state = by f.0 (fine-front (r.done ++ e ∷ []) between reader' script left' all) near }
     where
-      by : (more : List Event) → IsFine (r.done ++ e ∷ []) script → play.left now e state ⊎ (state ≡ (play.act now e).stepped) → IsNear play start state r.done (e ∷ more) script
-      by more fine (inl left) = inr (inl (record { next = e; later = more; first = refl; fine = fine; is = inl (subst (λ s. play.left s e state) r.state left) }))
-      by more fine (inr stepped) = inr (inl (record { next = e; later = more; first = refl; fine = fine; is = inr (record { stepped = stepped ∙ ap (λ s. (play.act s e).stepped) r.state }) }))
+      by : (more : List Event) → IsFine (r.done ++ e ∷ []) script → IsRefused play now next e act_error.NoMemory ⊎ IsPast play now next e → IsNear play start next r.done (e ∷ more) script
+      by more fine (inl refused) = inr (inl (record { next = e; later = more; first = refl; body = body; fine = fine; is = inl (is-unmade start now next r.done e act_error.NoMemory r.state refused) }))
+      by more fine (inr past) = inr (inl (record { next = e; later = more; first = refl; body = body; fine = fine; is = inr (is-stepped start now next r.done e r.state past) }))
 
   -- no memory for the unit of an event: all of its reply was put
-  front-behind : (start now state : S) (reader reader' : Reading) (script left left' given0 given given' : Option (List ℕ)) (e : Event) → Reached play start now fresh reader script left given0 given → Passed between (e ∷ []) between reader reader' left left' → KnowsEnd reader'.ended left'
-      → IsShort e → state ≡ (play.act now e).stepped → given' ≡ appended given (text_of (play.act now e).reply) → PutFront play start state script left' given0 given'
+  front-behind : (start now next : Standing S) (reader reader' : Reading) (script left left' given0 given given' : Option (List ℕ)) (e : Event) → Reached play start now fresh reader script left given0 given → Passed between (e ∷ []) between reader reader' left left' → KnowsEnd reader'.ended left'
+      → IsShort e → IsPast play now next e → given' ≡ appended given (text_of (play.act now.state e).reply) → PutFront play start next script left' given0 given'
   unfolding one-more
-  front-behind start now state reader reader' script left left' given0 given given' e r p knows body stepped put_is =
-      let all = one-more start now (play.act now e).after reader reader' script left left' given0 given given' e r p body refl put_is in
+  front-behind start now next reader reader' script left left' given0 given given' e r p knows body past put_is =
+      let all = one-more start now (record { state = (play.act now.state e).after; table = next.table }) reader reader' script left left' given0 given given' e r p body refl past.1 put_is in
       let f = fronts all.done between reader' script left' knows all.passed in
-      record { done = all.done; more = f.0; front = f.1; fine = fine-front all.done between reader' script left' all.passed; bodies = all.bodies; put = all.put; state = inr (inr (record { earlier = r.done; last = e; end = refl; is = record { stepped = stepped ∙ ap (λ s. (play.act s e).stepped) r.state } })) }
+      record { done = all.done; more = f.0; front = f.1; fine = fine-front all.done between reader' script left' all.passed; bodies = all.bodies; put = all.put; state = inr (inr (record { earlier = r.done; last = e; end = refl; is = is-stepped start now next r.done e r.state past })) }
+
+  -- the keeper of an event that was to write failed
+  unkept-of : (start now next : Standing S) (reader reader' : Reading) (script left left' given0 given : Option (List ℕ)) (e : Event) → Reached play start now fresh reader script left given0 given → Passed between (e ∷ []) between reader reader' left left' → KnowsEnd reader'.ended left'
+      → IsShort e → IsRefused play now next e act_error.Store → (play.act now.state e).wrote ≡ true → PutUnkept play start next script left' given0 given
+  unkept-of start now next reader reader' script left left' given0 given e r p knows body refused wrote =
+      let all = passed-passed r.done (e ∷ []) between between between fresh reader reader' script left left' r.passed p in
+      let f = fronts (r.done ++ e ∷ []) between reader' script left' knows all in
+      record {
+        done = r.done;
+        next = e;
+        more = f.0;
+        front = front-next r.done e f.0 script left' f.1;
+        fine = fine-front (r.done ++ e ∷ []) between reader' script left' all;
+        bodies = bodies-more r.done e r.bodies body;
+        wrote = sym (ap (λ s. (play.act s e).wrote) r.state.state) ∙ wrote;
+        put = r.put;
+        state = is-unmade start now next r.done e act_error.Store r.state refused;
+      }
 
   -- a first part of an event's reply was put
-  part-of : (start now state : S) (reader reader' : Reading) (script left left' given0 given given' : Option (List ℕ)) (e : Event) → Reached play start now fresh reader script left given0 given → Passed between (e ∷ []) between reader reader' left left' → KnowsEnd reader'.ended left'
-      → IsShort e → state ≡ (play.act now e).stepped → IsPut (text_of (play.act now e).reply) given given' → PutPart play start state script left' given0 given'
-  part-of start now state reader reader' script left left' given0 given given' e r p knows body stepped cut =
+  part-of : (start now next : Standing S) (reader reader' : Reading) (script left left' given0 given given' : Option (List ℕ)) (e : Event) → Reached play start now fresh reader script left given0 given → Passed between (e ∷ []) between reader reader' left left' → KnowsEnd reader'.ended left'
+      → IsShort e → IsPast play now next e → IsPut (text_of (play.act now.state e).reply) given given' → PutPart play start next script left' given0 given'
+  part-of start now next reader reader' script left left' given0 given given' e r p knows body past cut =
       let all = passed-passed r.done (e ∷ []) between between between fresh reader reader' script left left' r.passed p in
       let f = fronts (r.done ++ e ∷ []) between reader' script left' knows all in
       record {
@@ -252,31 +295,35 @@ module _ {S : Type 0} (play : Play S) where
         part = cut.part;
         cut = cut.more;
         some = cut.cut;
-        whole = cut.whole ∙ ap (λ s. text_of (play.act s e).reply) r.state;
-        put = cut.given_is ∙ ap (λ g. appended g cut.part) r.put ∙ given_twice given0 (concat (replies play start r.done)) cut.part;
-        state = record { stepped = stepped ∙ ap (λ s. (play.act s e).stepped) r.state };
+        whole = cut.whole ∙ ap (λ s. text_of (play.act s e).reply) r.state.state;
+        put = cut.given_is ∙ ap (λ g. appended g cut.part) r.put ∙ given_twice given0 (concat (replies play start.state r.done)) cut.part;
+        state = is-stepped start now next r.done e r.state past;
       }
 
   -- an event that broke off
-  pub ends-broken : (start now state : S) (error : RunError) (reader reader' : Reading) (script left left' given0 given given' : Option (List ℕ)) (e : Event) → Reached play start now fresh reader script left given0 given → Passed between (e ∷ []) between reader reader' left left' → KnowsEnd reader'.ended left'
-      → IsShort e → Broke play now state e error given given' → EndsBy play start state error script left' given0 given'
-  ends-broken start now state NoMemory reader reader' script left left' given0 given given' e r p knows body (inl none) =
-      subst (λ g. PutFront play start state script left' given0 g) (sym none.1) (front-before start now state reader reader' script left left' given0 given e r p knows none.0)
-  ends-broken start now state NoMemory reader reader' script left left' given0 given given' e r p knows body (inr all) =
-      front-behind start now state reader reader' script left left' given0 given given' e r p knows body all.0 all.1
-  ends-broken start now state Write reader reader' script left left' given0 given given' e r p knows body broke = part-of start now state reader reader' script left left' given0 given given' e r p knows body broke.0 broke.1
-  ends-broken start now state Read reader reader' script left left' given0 given given' e r p knows body broke = absurd broke
-  ends-broken start now state TooLong reader reader' script left left' given0 given given' e r p knows body broke = absurd broke
+  pub ends-broken : (start now next : Standing S) (error : RunError) (reader reader' : Reading) (script left left' given0 given given' : Option (List ℕ)) (e : Event) → Reached play start now fresh reader script left given0 given → Passed between (e ∷ []) between reader reader' left left' → KnowsEnd reader'.ended left'
+      → IsShort e → Broke play now next e error given given' → EndsBy play start next error script left' given0 given'
+  ends-broken start now next NoMemory reader reader' script left left' given0 given given' e r p knows body (inl none) =
+      subst (λ g. PutFront play start next script left' given0 g) (sym none.1) (front-before start now next reader reader' script left left' given0 given e r p knows body (inl none.0))
+  ends-broken start now next NoMemory reader reader' script left left' given0 given given' e r p knows body (inr (past, inl none)) =
+      subst (λ g. PutFront play start next script left' given0 g) (sym none) (front-before start now next reader reader' script left left' given0 given e r p knows body (inr past))
+  ends-broken start now next NoMemory reader reader' script left left' given0 given given' e r p knows body (inr (past, inr all)) =
+      front-behind start now next reader reader' script left left' given0 given given' e r p knows body past all
+  ends-broken start now next Store reader reader' script left left' given0 given given' e r p knows body broke =
+      subst (λ g. PutUnkept play start next script left' given0 g) (sym broke.2) (unkept-of start now next reader reader' script left left' given0 given e r p knows body broke.0 broke.1)
+  ends-broken start now next Write reader reader' script left left' given0 given given' e r p knows body broke = part-of start now next reader reader' script left left' given0 given given' e r p knows body broke.0 broke.1
+  ends-broken start now next Read reader reader' script left left' given0 given given' e r p knows body broke = absurd broke
+  ends-broken start now next TooLong reader reader' script left left' given0 given given' e r p knows body broke = absurd broke
 
   -- no memory before the first event
-  pub ends-unread : (start : S) (script given0 : Option (List ℕ)) → EndsBy play start start NoMemory script script given0 given0
+  pub ends-unread : (start : Standing S) (script given0 : Option (List ℕ)) → EndsBy play start start NoMemory script script given0 given0
   ends-unread start script given0 = front-of start start fresh script script given0 given0 (reached-none start fresh script given0 refl) (λ e. absurd (no e))
     where
       no : ◌≡◌ {A = Bool} false true → ⊥
       no h = cc
 
   -- why the next event doesn't come
-  pub ends-by : (start now : S) (error : RunError) (reader reader' : Reading) (script left left' given0 given : Option (List ℕ)) → Reached play start now fresh reader script left given0 given → Stopped between error reader reader' left left' → KnowsEnd reader'.ended left'
+  pub ends-by : (start now : Standing S) (error : RunError) (reader reader' : Reading) (script left left' given0 given : Option (List ℕ)) → Reached play start now fresh reader script left given0 given → Stopped between error reader reader' left left' → KnowsEnd reader'.ended left'
       → EndsBy play start now error script left' given0 given
   ends-by start now Read reader reader' script left left' given0 given r s knows =
       let p = passed-passed r.done [] between between s.place fresh reader reader' script left left' r.passed s.passed in
@@ -287,35 +334,53 @@ module _ {S : Type 0} (play : Play S) where
         short = p.short s.why.1 reader'.pending ∙ none-passed s.place reader'.answered reader'.pending s.why.0 s.why.2;
         fine = subst (λ es. IsFine es script) (sym all) (fine-front r.done between reader script left r.passed);
         bodies = subst (All IsShort) (sym all) r.bodies;
-        put = r.put ∙ ap (λ es. appended given0 (concat (replies play start es))) (sym all);
-        state = r.state ∙ ap (after_events play start) (sym all);
+        put = r.put ∙ ap (λ es. appended given0 (concat (replies play start.state es))) (sym all);
+        state = subst (IsBehind play start now) (sym all) r.state;
       }
   ends-by start now NoMemory reader reader' script left left' given0 given r s knows =
       let p = passed-passed r.done [] between between s.place fresh reader reader' script left left' r.passed s.passed in
       let f = fronts (r.done ++ []) s.place reader' script left' knows p in
       record { done = r.done; more = f.0; front = subst (λ es. IsFront es f.0 script left') (append-nil r.done) f.1; fine = fine-front r.done between reader script left r.passed; bodies = r.bodies; put = r.put; state = inl r.state }
   ends-by start now Write reader reader' script left left' given0 given r s knows = absurd s.why
+  ends-by start now Store reader reader' script left left' given0 given r s knows = absurd s.why
   ends-by start now TooLong reader reader' script left left' given0 given r s knows =
       let p = passed-passed r.done [] between between s.place fresh reader reader' script left left' r.passed s.passed in
-      long script (told-ahead (r.done ++ []) script (ahead_of s.place reader' left') (λ a. (a.fine ≡ []) × (a.long ≡ true)) p.ahead s.why)
+      record {
+        done = r.done;
+        cut = told script (told-ahead (r.done ++ []) script (ahead_of s.place reader' left') PassesHere p.ahead s.why.0);
+        taken = p.gone ++ reader'.pending;
+        taken_is = taken-is (r.done ++ []) s.place reader' script left' p;
+        shown = by_end p reader'.ended refl;
+        bodies = r.bodies;
+        put = r.put;
+        state = r.state;
+      }
     where
-      long : (script : Option (List ℕ)) → IfSome script (λ all. (a : Ahead) × (ahead_in between 0 (pieces_of all) ≡ behind (r.done ++ []) a) × ((a.fine ≡ []) × (a.long ≡ true))) → IfSome script (λ all. PutFine play start now all given0 given)
-      long None h = tt
-      long (Some all) h =
-          let fine : fine_of all ≡ r.done = ap (λ (a : Ahead). a.fine) h.1 ∙ ap (λ l. (r.done ++ []) ++ l) h.2.0 ∙ append-nil (r.done ++ []) ∙ append-nil r.done in
-          record {
-            long = ap (λ (a : Ahead). a.long) h.1 ∙ h.2.1;
-            bodies = subst (All IsShort) (sym fine) r.bodies;
-            put = r.put ∙ ap (λ es. appended given0 (concat (replies play start es))) (sym fine);
-            state = r.state ∙ ap (after_events play start) (sym fine);
-          }
+      cut : (bytes : List ℕ) (a : Ahead) → ahead_in between 0 (pieces_of bytes) ≡ behind (r.done ++ []) a → PassesHere a → IsCutBehind r.done bytes
+      cut bytes a is passes = (ap (λ (a : Ahead). a.long) is ∙ passes.1, ap (λ (a : Ahead). a.fine) is ∙ ap (λ l. (r.done ++ []) ++ l) passes.0 ∙ append-nil (r.done ++ []) ∙ append-nil r.done)
+
+      told : (script : Option (List ℕ)) → IfSome script (λ all. (a : Ahead) × (ahead_in between 0 (pieces_of all) ≡ behind (r.done ++ []) a) × PassesHere a) → IfSome script (IsCutBehind r.done)
+      told None h = tt
+      told (Some all) h = cut all h.0 h.1 h.2
+
+      by_end : (p : Passed between (r.done ++ []) s.place fresh reader' script left') (b : Bool) → reader'.ended ≡ b → IfSome left' (λ rest. rest ≡ []) ⊎ ((more : List ℕ) → IsCutBehind r.done ((p.gone ++ reader'.pending) ++ more))
+      by_end p true is = inl (knows is)
+      by_end p false is = inr (λ more. cut ((p.gone ++ reader'.pending) ++ more) (ahead_in s.place reader'.answered (pieces_of (reader'.pending ++ more)))
+          (ap (λ l. ahead_in between 0 (pieces_of l)) (append_assoc p.gone reader'.pending more) ∙ p.leads is (reader'.pending ++ more)) (s.why.1 is more))
 
   -- all is done
-  pub all-done : (start now : S) (reader reader' : Reading) (script left left' given0 given : Option (List ℕ)) → Reached play start now fresh reader script left given0 given → IsAtEnd between between reader reader' left left' → KnowsEnd reader'.ended left'
-      → IfSome script (λ all. (is_too_long all ≡ false) × (PutAll play start given0 given (events_of all) × IsBehind play start now (events_of all)))
+  pub all-done : (start now : Standing S) (reader reader' : Reading) (script left left' given0 given : Option (List ℕ)) → Reached play start now fresh reader script left given0 given → IsAtEnd between between reader reader' left left' → KnowsEnd reader'.ended left'
+      → PutWhole play start now script left' given0 given
   all-done start now reader reader' script left left' given0 given r e knows =
       let p = passed-passed r.done [] between between between fresh reader reader' script left left' r.passed e.passed in
-      done script (told-ahead (r.done ++ []) script (ahead_of between reader' left') (λ a. (a.events ≡ []) × (a.long ≡ false)) p.ahead (nothing left' (knows e.ended)))
+      record {
+        done = r.done;
+        whole = whole script (told-ahead (r.done ++ []) script (ahead_of between reader' left') (λ a. (a.events ≡ []) × (a.long ≡ false)) p.ahead (nothing left' (knows e.ended)));
+        drained = knows e.ended;
+        bodies = r.bodies;
+        put = r.put;
+        state = r.state;
+      }
     where
       nothing : (left' : Option (List ℕ)) → IfSome left' (λ rest. rest ≡ []) → IfSome (ahead_of between reader' left') (λ a. (a.events ≡ []) × (a.long ≡ false))
       nothing None h = tt
@@ -323,9 +388,7 @@ module _ {S : Type 0} (play : Play S) where
           let empty : reader'.pending ++ rest ≡ [] = ap (λ l. l ++ rest) e.nothing ∙ h in
           (ap (λ l. (ahead_in between reader'.answered (pieces_of l)).events) empty, ap (λ l. (ahead_in between reader'.answered (pieces_of l)).long) empty)
 
-      done : (script : Option (List ℕ)) → IfSome script (λ all. (a : Ahead) × (ahead_in between 0 (pieces_of all) ≡ behind (r.done ++ []) a) × ((a.events ≡ []) × (a.long ≡ false)))
-          → IfSome script (λ all. (is_too_long all ≡ false) × (PutAll play start given0 given (events_of all) × IsBehind play start now (events_of all)))
-      done None h = tt
-      done (Some all) h =
-          let events : events_of all ≡ r.done = ap (λ (a : Ahead). a.events) h.1 ∙ ap (λ l. (r.done ++ []) ++ l) h.2.0 ∙ append-nil (r.done ++ []) ∙ append-nil r.done in
-          (ap (λ (a : Ahead). a.long) h.1 ∙ h.2.1, (r.put ∙ ap (λ es. appended given0 (concat (replies play start es))) (sym events), r.state ∙ ap (after_events play start) (sym events)))
+      whole : (script : Option (List ℕ)) → IfSome script (λ all. (a : Ahead) × (ahead_in between 0 (pieces_of all) ≡ behind (r.done ++ []) a) × ((a.events ≡ []) × (a.long ≡ false)))
+          → IfSome script (λ all. (is_too_long all ≡ false) × (events_of all ≡ r.done))
+      whole None h = tt
+      whole (Some all) h = (ap (λ (a : Ahead). a.long) h.1 ∙ h.2.1, ap (λ (a : Ahead). a.events) h.1 ∙ ap (λ l. (r.done ++ []) ++ l) h.2.0 ∙ append-nil (r.done ++ []) ∙ append-nil r.done)

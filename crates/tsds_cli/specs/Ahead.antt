@@ -10,7 +10,7 @@ use Rattle.tsds_cli.specs.declared.script.Heard.{Heard}
 use Rattle.tsds_cli.specs.declared.script.Opening.{Opening}
 use Rattle.tsds_cli.specs.declared.script.Opening.TheVariants.{Moment, Request}
 use Rattle.tsds_cli.specs.declared.errors.RunError.{RunError}
-use Rattle.tsds_cli.specs.declared.errors.RunError.TheVariants.{Read, Write, TooLong, NoMemory}
+use Rattle.tsds_cli.specs.declared.errors.RunError.TheVariants.{Read, Write, Store, TooLong, NoMemory}
 use Rattle.tsds_cli.specs.Script as Script
 use Rattle.tsds_cli.specs.Script.{Place, between, within, whole_lines, events_from, closed_from}
 use Rattle.tsds_cli.specs.Limits.{long_from, fine_from, passed_from}
@@ -40,6 +40,10 @@ Closes place events to gone = (more : List ℕ) → closed_from place (whole_lin
 abbrev pub Holds : Place → ℕ → Place → ℕ → List ℕ → Type 0
 Holds place before to now gone = (more : List ℕ) → passed_from place before (pieces_of (gone ++ more)) ≡ passed_from to now (pieces_of more)
 
+-- what lies ahead from one place is these events and what lies ahead from the other, whatever follows the bytes between them
+abbrev pub Leads : Place → List Event → ℕ → Place → ℕ → List ℕ → Type 0
+Leads place events before to now gone = (more : List ℕ) → ahead_in place before (pieces_of (gone ++ more)) ≡ behind events (ahead_in to now (pieces_of more))
+
 -- a reader went over bytes that lead from one place to another, and these events are closed in them
 pub record Passed (place : Place) (events : List Event) (to : Place) (before after : Reading) (old new : Option (List ℕ)) : Type 0 where
   pub gone : List ℕ
@@ -47,6 +51,7 @@ pub record Passed (place : Place) (events : List Event) (to : Place) (before aft
   pub closed : after.ended ≡ false → Closes place events to gone
   pub short : after.ended ≡ false → Holds place before.answered to after.answered gone
   pub ahead : ahead_of place before old ≡ option_map (behind events) (ahead_of to after new)
+  pub leads : after.ended ≡ false → Leads place events before.answered to after.answered gone
   pub still : after.ended ≡ false → before.ended ≡ false
   pub counted : before.answered ≤ after.answered
 
@@ -56,12 +61,18 @@ pub record IsAtEnd (from place : Place) (before after : Reading) (old new : Opti
   pub ended : after.ended ≡ true
   pub nothing : after.pending ≡ []
 
--- why no further event comes, where the reader stands at this place
+-- no event comes before a length is passed
+abbrev pub PassesHere : Ahead → Type 0
+PassesHere ahead = (ahead.fine ≡ []) × (ahead.long ≡ true)
+
+-- why no further event comes, where the reader stands at this place: where the source hasn't ended, whatever it still has
 abbrev pub WhyStopped : RunError → Place → Reading → Option (List ℕ) → Type 0
 WhyStopped Read place reader left = HasNoNewline reader.pending × (reader.ended ≡ false) × (length reader.pending ≤ line_limit)
-WhyStopped TooLong place reader left = IfSome (ahead_of place reader left) (λ ahead. (ahead.fine ≡ []) × (ahead.long ≡ true))
+WhyStopped TooLong place reader left = IfSome (ahead_of place reader left) PassesHere
+    × (reader.ended ≡ false → (more : List ℕ) → PassesHere (ahead_in place reader.answered (pieces_of (reader.pending ++ more))))
 WhyStopped NoMemory place reader left = Unit {0}
 WhyStopped Write place reader left = ⊥
+WhyStopped Store place reader left = ⊥
 
 -- a reader went on without closing an event, and stopped
 pub record Stopped (from : Place) (error : RunError) (before after : Reading) (old new : Option (List ℕ)) : Type 0 where

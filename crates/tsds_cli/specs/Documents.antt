@@ -2,7 +2,6 @@
 use Rattle.std.specs.Prelude.{◌≡◌, ℕ, ◌==◌, ℤ, pos, List, [], ◌∷◌, ◌++◌, length, Bool, true, false, ◌&&◌, map, bytes_eq, codes, int_le, Option, None, Some, option_and_then, if◌then◌else◌}
 use Rattle.std.specs.Option.{option_map}
 use Rattle.std.specs.List.{list_any, slice_split}
-use Rattle.std.specs.Fmt.{decimal}
 use Rattle.std.specs.Str.{is_utf8}
 use Rattle.std.specs.Ordering.{int_eq}
 use Rattle.serde_json.specs.Data.{Data}
@@ -10,16 +9,19 @@ use Rattle.serde_json.specs.Find.{get, as_number, as_i64, as_str}
 use Rattle.json_walk.specs.Names.{has_names}
 use Rattle.json_walk.specs.Tree.{tree_of}
 use Rattle.reply_json.specs.declared.out.Out.{Out, Flag, Num, Word, List as array, Object}
-use Rattle.reply_json.specs.Reply.{text}
 use Rattle.reply_json.specs.Trees.{member, error_tree}
 use Rattle.tsds_cli.specs.Script.{Event, Moment, Request}
 use Rattle.tsds_cli.specs.Ahead.{opening_of}
 use Rattle.tsds_cli.specs.declared.script.Opening.{Opening}
 use Rattle.tsds_cli.specs.declared.script.Opening.TheVariants as opening
 use Rattle.time_text.specs.Instant.{instant_of, in_range}
-use Rattle.tsds_cli.specs.declared.machine.Reply.{Reply}
+use Rattle.tsds_cli.specs.declared.reply.Reply.{Reply}
+use Rattle.tsds_cli.specs.Replies.{reply_line}
+use Rattle.edge_face.specs.Table.{Table}
+use Rattle.tsds_cli.specs.declared.errors.ActError.{ActError}
+use Rattle.tsds_cli.specs.declared.errors.ActError.TheVariants as act_error
 use Rattle.tsds_cli.specs.declared.machine.Machine.{Machine}
-use Rattle.tsds_cli.specs.Play.{Act, Play}
+use Rattle.tsds_cli.specs.Play.{Act, Play, Standing}
 use Rattle.tsds_cli.specs.declared.documents.Document.{Document}
 use Rattle.tsds_cli.specs.declared.machine.Asked.{Asked}
 use Rattle.tsds_cli.specs.declared.machine.Asked.TheVariants.{Count, Bulk, Other}
@@ -104,10 +106,6 @@ abbrev pub is_refused : Outcome → Bool
 is_refused Created = false
 is_refused Conflict = true
 is_refused NotBuilt = true
-
--- a status and a tree, in one line
-unfoldable pub reply_line : Reply → List ℕ
-reply_line reply = decimal reply.status ++ (32 ∷ (text reply.tree ++ 10 ∷ []))
 
 unfoldable pub not_built : Reply
 not_built = record { status = 400; tree = error_tree 400 (codes "not_built_exception") (codes "not built") }
@@ -201,11 +199,21 @@ act_of machine event = record {
   reply = option_map reply_line (reply_of machine event);
   stepped = stepped_of machine event;
   after = rest_of (opening_of event) (stepped_of machine event);
+  wrote = false;
 }
 
--- without memory for a step it stays as it was
-abbrev pub stays : Machine → Event → Machine → Type 0
-stays machine event state = state ≡ machine
+-- without memory for a step it stays as it was, and it never asks its keeper
+abbrev pub Stays : Machine → Event → ActError → Machine → Type 0
+Stays machine event act_error.NoMemory state = state ≡ machine
+Stays machine event act_error.Store state = ⊥
+
+-- no table is its image
+abbrev pub NoImage : Machine → Table → Type 0
+NoImage machine table = ⊥
 
 abbrev pub script_play : Play Machine
-script_play = record { act = act_of; left = stays }
+script_play = record { act = act_of; left = Stays; image = NoImage }
+
+-- where a run begins: the empty machine, over an empty table
+abbrev pub empty_standing : Standing Machine
+empty_standing = record { state = empty_machine; table = Some [] }

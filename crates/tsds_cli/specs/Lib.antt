@@ -4,6 +4,8 @@ pub mod Ends
 pub mod Errors
 pub mod Limits
 pub mod Play
+pub mod PlaysLaws
+pub mod Replies
 pub mod Script
 pub mod Statuses
 pub mod Words

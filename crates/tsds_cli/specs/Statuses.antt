@@ -7,5 +7,6 @@ printed_for status =
     if status == 2 then codes "tsds: usage"
     else (if status == 3 then codes "tsds: out of memory"
     else (if status == 4 then codes "tsds: read fault"
+    else (if status == 6 then codes "tsds: keeper fault"
     else (if status == 7 then codes "tsds: write fault"
-    else (if status == 8 then codes "tsds: input too long" else []))))
+    else (if status == 8 then codes "tsds: input too long" else [])))))

@@ -1,9 +1,30 @@
 //! How a run ends before the end of its script.
 
-use crate::status::{NO_MEMORY, READ_FAULT, TOO_LONG, WRITE_FAULT};
+use crate::status::{KEEPER_FAULT, NO_MEMORY, READ_FAULT, TOO_LONG, WRITE_FAULT};
 use edge_face::{LineError, NoMemory};
 use std::alloc::AllocError;
 use thiserror::Error;
+
+/// Why an event's step isn't made.
+#[derive(Clone, Copy, Debug, PartialEq, Eq, Error)]
+pub enum ActError {
+    #[error("out of memory")]
+    NoMemory,
+    /// The keeper failed where the event was to write.
+    #[error("keeper fault")]
+    Store,
+}
+
+impl From<NoMemory> for ActError {
+    ghost use Rattle.std.specs.Prelude.{◌≡◌};
+    ghost use Rattle.tsds_cli.specs.declared.errors.ActError.TheVariants.{NoMemory as OutOfMemory};
+
+    ghost from_gives = { λ _ e. e ≡ OutOfMemory };
+
+    fn from(_: NoMemory) -> ActError {
+        ActError::NoMemory
+    }
+}
 
 /// Why a run ends before the end of its script.
 #[derive(Clone, Copy, Debug, PartialEq, Eq, Error)]
@@ -12,6 +33,9 @@ pub enum RunError {
     NoMemory,
     #[error("read fault")]
     Read,
+    /// The keeper failed where an event was to write.
+    #[error("keeper fault")]
+    Store,
     #[error("write fault")]
     Write,
     /// The script passes one of its lengths.
@@ -30,6 +54,20 @@ impl From<LineError> for RunError {
             LineError::Read => RunError::Read,
             LineError::TooLong { .. } => RunError::TooLong,
             LineError::NoMemory => RunError::NoMemory,
+        }
+    }
+}
+
+impl From<ActError> for RunError {
+    ghost use Rattle.std.specs.Prelude.{◌≡◌};
+    ghost use Rattle.tsds_cli.specs.Errors.{broken_by};
+
+    ghost from_gives = { λ e r. r ≡ broken_by e };
+
+    fn from(error: ActError) -> RunError {
+        match error {
+            ActError::NoMemory => RunError::NoMemory,
+            ActError::Store => RunError::Store,
         }
     }
 }
@@ -67,6 +105,7 @@ impl RunError {
         match self {
             RunError::NoMemory => NO_MEMORY,
             RunError::Read => READ_FAULT,
+            RunError::Store => KEEPER_FAULT,
             RunError::Write => WRITE_FAULT,
             RunError::TooLong => TOO_LONG,
         }

@@ -4,9 +4,19 @@
 mod documents;
 mod errors;
 mod machine;
+mod player;
 mod program;
+mod reply;
+mod runs;
 mod script;
 mod status;
 
+pub use errors::{ActError, RunError};
+pub use player::Player;
 pub use program::top;
-pub use status::{DONE, NO_MEMORY, READ_FAULT, TOO_LONG, USAGE, WRITE_FAULT, status_text};
+pub use reply::Reply;
+pub use runs::run;
+pub use script::{Heard, Opening};
+pub use status::{
+    DONE, KEEPER_FAULT, NO_MEMORY, READ_FAULT, TOO_LONG, USAGE, WRITE_FAULT, status_text,
+};

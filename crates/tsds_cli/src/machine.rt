@@ -1,18 +1,22 @@
 //! Requests and their replies.
-ghost use Rattle.std.specs.Prelude.{◌≡◌, ◌∷◌, ◌++◌, [], List, Bool, Some, None, Option, IfOk, OnOk, OnErr, map, length, take, bytes_eq, codes, pos, ℕ, ◌==◌};
+ghost use Rattle.std.specs.Prelude.{◌≡◌, ◌∷◌, ◌++◌, [], List, Bool, false, Some, None, Option, IfOk, OnOk, OnErr, map, length, take, bytes_eq, codes, pos, ℕ, ◌==◌};
 ghost use Rattle.std.specs.Option.{option_map};
 ghost use Rattle.std.specs.List.{list_any, slice_split};
 ghost use Rattle.time_text.specs.Instant.{instant_of as instant};
 ghost use Rattle.reply_json.specs.declared.out.Out.{Out as tree_type};
 ghost use Rattle.tsds_cli.specs.Ahead.{event_in};
-ghost use Rattle.tsds_cli.specs.Documents.{outcomes_of, documents_after, sources_of, bulk_sources, item_of, refused_item as refused_item_of, is_refused, reply_line, not_built, bad_moment};
+ghost use Rattle.tsds_cli.specs.Replies.{reply_line};
+ghost use Rattle.tsds_cli.specs.Documents.{outcomes_of, documents_after, sources_of, bulk_sources, item_of, refused_item as refused_item_of, is_refused, not_built, bad_moment};
 ghost use Rattle.tsds_cli.specs.Documents.{count_reply, bulk_reply, bulk_tree as bulk_tree_of, asked_by as asked_by_line, bulk_to, bulk_after, reply_to, after};
 ghost use Rattle.tsds_cli.specs.Documents.{moment_in, unless_earlier as kept_unless_earlier, not_before, moment_reply, moved, empty_machine, script_play, rest_of};
 
 use crate::documents::{Documents, Outcome};
+use crate::errors::ActError;
+use crate::player::Player;
+use crate::reply::Reply;
 use crate::script::{Heard, Opening};
-use edge_face::NoMemory;
-use reply_json::{Members, Out, error_reply, print};
+use edge_face::{Keeper, NoMemory};
+use reply_json::{Members, Out, error_reply};
 use std::alloc::{AllocError, Global};
 use time_text::read_instant;
 
@@ -105,25 +109,6 @@ fn item(alloc: Global, outcome: Outcome) -> Result<Out, NoMemory>
         ),
         Outcome::NotBuilt => refused_item(alloc, 400, "not_built_exception", "not built"),
     }
-}
-
-/// A reply: a status and a tree.
-#[derive(Drop)]
-pub struct Reply {
-    pub status: u16,
-    pub tree: Out,
-}
-
-/// Appends a reply in one line: its status, a space, its text and a newline.
-#[tactic(auto, unfolding(crate::specs::Documents::reply_line))]
-pub fn print_reply(reply: &Reply, into: &mut Vec<u8>) -> Result<(), NoMemory>
-    ensures { OnOk result (into.new.items ≡ into.old.items ++ reply_line reply.now) }
-{
-    into.extend_from_slice(itoa::Buffer::new().format(reply.status).as_bytes())?;
-    into.push(b' ')?;
-    print(&reply.tree, into)?;
-    into.push(b'\n')?;
-    Ok(())
 }
 
 #[tactic(auto, unfolding(crate::specs::Documents::not_built))]
@@ -352,17 +337,14 @@ fn move_on(alloc: Global, now: &mut i64, text: &[u8]) -> Result<Option<Reply>, N
     }
 }
 
-/// Makes the step of an event, which is the machine's from now on. Without memory the machine stays as it was.
+/// Makes the step of an event. Without memory the machine stays as it was.
 #[tactic(auto, unfolding(crate::specs::Documents::act_of))]
-pub fn act(
-    alloc: Global,
-    machine: &mut Machine,
-    heard: &mut Heard,
-) -> Result<Option<Reply>, NoMemory>
-    ensures reply { IfOk result (λ r. option_map reply_line r ≡ (script_play.act machine.old (event_in heard.old)).reply) }
-    ensures stepped { OnOk result (machine.new ≡ (script_play.act machine.old (event_in heard.old)).stepped) }
-    ensures after { OnOk result ((script_play.act machine.old (event_in heard.old)).after ≡ rest_of heard.old.opening machine.new) }
-    ensures refused { OnErr result (script_play.left machine.old (event_in heard.old) machine.new) }
+fn step(alloc: Global, machine: &mut Machine, heard: &Heard) -> Result<Option<Reply>, NoMemory>
+    ensures reply { IfOk result (λ r. option_map reply_line r ≡ (script_play.act machine.old (event_in heard.now)).reply) }
+    ensures stepped { OnOk result (machine.new ≡ (script_play.act machine.old (event_in heard.now)).stepped) }
+    ensures after { OnOk result ((script_play.act machine.old (event_in heard.now)).after ≡ rest_of heard.now.opening machine.new) }
+    ensures wrote { (script_play.act machine.old (event_in heard.now)).wrote ≡ false }
+    ensures refused { OnErr result (machine.new ≡ machine.old) }
 {
     match heard.opening {
         Opening::Moment => move_on(alloc, &mut machine.now, heard.line.as_slice()),
@@ -378,13 +360,26 @@ pub fn act(
     }
 }
 
-/// Makes the unit behind an event that was opened so, where it has one. Without memory nothing is changed.
-#[tactic(auto, unfolding(crate::specs::Documents::unit))]
-pub fn go_on(_machine: &mut Machine, opening: Opening) -> Result<(), NoMemory>
-    ensures after { OnOk result (_machine.new ≡ rest_of opening _machine.old) }
-    ensures refused { OnErr result (_machine.new ≡ _machine.old) }
-{
-    match opening {
-        Opening::Moment | Opening::Request => Ok(()),
+/// It writes no records, and never asks its keeper.
+impl<P: Keeper> Player<P> for Machine {
+    ghost play = { script_play };
+
+    ghost rest_of = { rest_of };
+
+    fn act(
+        &mut self,
+        alloc: Global,
+        heard: &mut Heard,
+        _keeper: &mut P,
+    ) -> Result<Option<Reply>, ActError> {
+        let reply = step(alloc, self, heard)?;
+        Ok(reply)
+    }
+
+    #[tactic(auto, unfolding(crate::specs::Documents::unit))]
+    fn go_on(&mut self, opening: Opening) -> Result<(), NoMemory> {
+        match opening {
+            Opening::Moment | Opening::Request => Ok(()),
+        }
     }
 }

@@ -1,116 +1,42 @@
 //! The top call of the program.
 ghost use Rattle.std.specs.Prelude.{◌≡◌, ◌≢◌, ◌↔◌, ◌⊎◌, ◌∷◌, ◌++◌, [], List, ℕ, Bool, true, false, Some, None, Option, IfOk, IfErr, IfSome, OnOk, OnErr, Ok, Err};
 ghost use Rattle.std.specs.Prelude.{map, codes, Contains, string_bytes, ◌≤◌};
-ghost use Rattle.std.specs.Option.{option_map};
-ghost use Rattle.edge_face.specs.Contents.{appended, Rose};
+ghost use Rattle.edge_face.specs.Contents.{Rose};
 ghost use Rattle.tsds_cli.specs.Script.{events_of};
 ghost use Rattle.tsds_cli.specs.Limits.{is_too_long};
-ghost use Rattle.tsds_cli.specs.Play.{PutAll, IsBehind, text_of};
-ghost use Rattle.tsds_cli.specs.Ends.{Ends, EndsBy, Unseen, Broke, IsPut};
-ghost use Rattle.tsds_cli.specs.Ahead.{event_in};
-ghost use Rattle.tsds_cli.specs.Documents.{script_play, empty_machine, reply_line};
+ghost use Rattle.tsds_cli.specs.Play.{PutAll};
+ghost use Rattle.tsds_cli.specs.Ends.{Ends, EndsWhole, Unseen};
+ghost use Rattle.tsds_cli.specs.Documents.{script_play, empty_machine, empty_standing};
 ghost use Rattle.tsds_cli.specs.Words.{is_run};
 
 use crate::errors::RunError;
-use crate::machine::{Machine, Reply, act, go_on, print_reply};
-use crate::script::{Heard, next_event};
+use crate::machine::Machine;
+use crate::runs::run;
 use crate::status::{DONE, USAGE};
-use edge_face::{LineReader, NoMemory, Sink, Source, put_all};
+use edge_face::{Sink, Source, SteadyKeeper};
 use std::alloc::Global;
+use std::collections::BTreeMap;
 
-/// Puts one reply.
-fn put_reply<K: Sink>(sink: &mut K, reply: &[u8]) -> Result<(), RunError>
-    ensures ok { OnOk result (K.given sink.new ≡ appended (K.given sink.old) reply.now) }
-    ensures part { OnErr result (IsPut reply.now (K.given sink.old) (K.given sink.new)) }
-    ensures write { IfErr result (λ e. e ≡ RunError.Write) }
-    ensures caused { OnErr result (Rose (K.faults sink.old) (K.faults sink.new)) }
-    ensures faults { K.faults sink.old ≤ K.faults sink.new }
-{
-    match put_all(sink, reply) {
-        Ok(()) => Ok(()),
-        Err(_) => Err(RunError::Write),
-    }
-}
-
-/// Prints a reply, where there is one.
-fn print_some(reply: &Option<Reply>, into: &mut Vec<u8>) -> Result<(), NoMemory>
-    ensures { OnOk result (into.new.items ≡ into.old.items ++ text_of (option_map reply_line reply.now)) }
-{
-    match reply {
-        None => Ok(()),
-        Some(reply) => print_reply(reply, into),
-    }
-}
-
-/// Does an event: its step, its reply and its unit. The reply's text is made in `text`.
-fn do_event<K: Sink>(
-    alloc: Global,
-    machine: &mut Machine,
-    sink: &mut K,
-    heard: &mut Heard,
-    text: &mut Vec<u8>,
-) -> Result<(), RunError>
-    ensures after { OnOk result (machine.new ≡ (script_play.act machine.old (event_in heard.old)).after) }
-    ensures put { OnOk result (K.given sink.new ≡ appended (K.given sink.old) (text_of (script_play.act machine.old (event_in heard.old)).reply)) }
-    ensures broke { IfErr result (λ e. Broke script_play machine.old machine.new (event_in heard.old) e (K.given sink.old) (K.given sink.new)) }
-    ensures write { result ≡ Err RunError.Write → Rose (K.faults sink.old) (K.faults sink.new) }
-    ensures faults { K.faults sink.old ≤ K.faults sink.new }
-{
-    let opening = heard.opening;
-    text.clear();
-    let reply = act(alloc, machine, heard)?;
-    print_some(&reply, text)?;
-    put_reply(sink, text.as_slice())?;
-    go_on(machine, opening)?;
-    Ok(())
-}
-
-/// Runs the script on the source, and writes each reply to the sink.
-fn run<S: Source, K: Sink>(
-    alloc: Global,
-    machine: &mut Machine,
-    source: &mut S,
-    sink: &mut K,
-) -> Result<(), RunError>
-    ensures done { OnOk result (IfSome (S.left source.old) (λ script. PutAll script_play machine.old (K.given sink.old) (K.given sink.new) (events_of script))) }
-    ensures state { OnOk result (IfSome (S.left source.old) (λ script. IsBehind script_play machine.old machine.new (events_of script))) }
-    ensures short { OnOk result (IfSome (S.left source.old) (λ script. is_too_long script ≡ false)) }
-    ensures drained { OnOk result (IfSome (S.left source.new) (λ rest. rest ≡ [])) }
-    ensures refused { IfErr result (λ e. EndsBy script_play machine.old machine.new e (S.left source.old) (S.left source.new) (K.given sink.old) (K.given sink.new)) }
-    ensures read { result ≡ Err RunError.Read → Rose (S.faults source.old) (S.faults source.new) }
-    ensures write { result ≡ Err RunError.Write → Rose (K.faults sink.old) (K.faults sink.new) }
-    ensures faults { S.faults source.old ≤ S.faults source.new }
-    ensures sink_faults { K.faults sink.old ≤ K.faults sink.new }
-{
-    let mut reader = LineReader::new(alloc)?;
-    let mut heard = Heard::new(alloc);
-    let mut text = Vec::new(alloc);
-    'events: loop {
-        let more = next_event(&mut reader, source, &mut heard)?;
-        if !more {
-            return Ok(());
-        }
-        do_event(alloc, machine, sink, &mut heard, &mut text)?;
-    }
-}
-
-/// Runs the script on the empty machine.
+/// Runs the script on the empty machine. It writes no records, and its keeper, which is never asked, never fails.
 fn run_empty<S: Source, K: Sink>(
     alloc: Global,
     source: &mut S,
     sink: &mut K,
 ) -> Result<(), RunError>
+    ensures whole { OnOk result (EndsWhole script_play empty_standing Unseen (S.left source.old) (S.left source.new) (K.given sink.old) (K.given sink.new)) }
     ensures done { OnOk result (IfSome (S.left source.old) (λ script. PutAll script_play empty_machine (K.given sink.old) (K.given sink.new) (events_of script))) }
     ensures short { OnOk result (IfSome (S.left source.old) (λ script. is_too_long script ≡ false)) }
     ensures drained { OnOk result (IfSome (S.left source.new) (λ rest. rest ≡ [])) }
-    ensures refused { IfErr result (λ e. Ends script_play empty_machine Unseen e (S.left source.old) (S.left source.new) (K.given sink.old) (K.given sink.new)) }
+    ensures refused { IfErr result (λ e. Ends script_play empty_standing Unseen e (S.left source.old) (S.left source.new) (K.given sink.old) (K.given sink.new)) }
     ensures read { result ≡ Err RunError.Read → Rose (S.faults source.old) (S.faults source.new) }
+    ensures kept { result ≢ Err RunError.Store }
     ensures write { result ≡ Err RunError.Write → Rose (K.faults sink.old) (K.faults sink.new) }
     ensures faults { S.faults source.old ≤ S.faults source.new }
     ensures sink_faults { K.faults sink.old ≤ K.faults sink.new }
 {
     let mut machine = Machine::new(alloc);
-    run(alloc, &mut machine, source, sink)
+    let mut keeper = SteadyKeeper::new(BTreeMap::new(alloc));
+    run(alloc, &mut machine, &mut keeper, source, sink)
 }
 
 /// Whether the words are `run` alone. The first word is the program's name.
@@ -134,14 +60,15 @@ pub fn top<S: Source, K: Sink>(alloc: Global, words: &[String], source: &mut S, 
     // Once all is done, the source is at its end and what was written is exactly the replies of the plain machine.
     ensures done { result ≡ 0 → IfSome (S.left source.old) (λ script. PutAll script_play empty_machine (K.given sink.old) (K.given sink.new) (events_of script)) }
     ensures drained { result ≡ 0 → IfSome (S.left source.new) (λ rest. rest ≡ []) }
+    ensures whole { result ≡ 0 → EndsWhole script_play empty_standing Unseen (S.left source.old) (S.left source.new) (K.given sink.old) (K.given sink.new) }
 
     // Under any other status of a run, what was written is told by the events that were done.
-    ensures memory { result ≡ 3 → Ends script_play empty_machine Unseen RunError.NoMemory (S.left source.old) (S.left source.new) (K.given sink.old) (K.given sink.new) }
+    ensures memory { result ≡ 3 → Ends script_play empty_standing Unseen RunError.NoMemory (S.left source.old) (S.left source.new) (K.given sink.old) (K.given sink.new) }
     ensures read { result ≡ 4 → Rose (S.faults source.old) (S.faults source.new)
-        × Ends script_play empty_machine Unseen RunError.Read (S.left source.old) (S.left source.new) (K.given sink.old) (K.given sink.new) }
+        × Ends script_play empty_standing Unseen RunError.Read (S.left source.old) (S.left source.new) (K.given sink.old) (K.given sink.new) }
     ensures write { result ≡ 7 → Rose (K.faults sink.old) (K.faults sink.new)
-        × Ends script_play empty_machine Unseen RunError.Write (S.left source.old) (S.left source.new) (K.given sink.old) (K.given sink.new) }
-    ensures long { result ≡ 8 → Ends script_play empty_machine Unseen RunError.TooLong (S.left source.old) (S.left source.new) (K.given sink.old) (K.given sink.new) }
+        × Ends script_play empty_standing Unseen RunError.Write (S.left source.old) (S.left source.new) (K.given sink.old) (K.given sink.new) }
+    ensures long { result ≡ 8 → Ends script_play empty_standing Unseen RunError.TooLong (S.left source.old) (S.left source.new) (K.given sink.old) (K.given sink.new) }
     ensures short { result ≡ 0 → IfSome (S.left source.old) (λ script. is_too_long script ≡ false) }
 
     // With the words of a run, a told source that holds its lengths and devices whose counts stay, the run is done unless memory is wanting.

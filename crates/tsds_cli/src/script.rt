@@ -131,7 +131,7 @@ fn add_line(body: &mut Vec<u8>, line: &[u8]) -> Result<(), RunError>
     ensures ok { OnOk result (body.new.items ≡ body.old.items ++ (line.now ++ 10 ∷ [])) }
     ensures short { OnOk result (length body.new.items ≤ body_limit) }
     ensures long { result ≡ Err RunError.TooLong → body_limit < length (body.old.items ++ (line.now ++ 10 ∷ [])) }
-    ensures others { (result ≢ Err RunError.Read) × (result ≢ Err RunError.Write) }
+    ensures others { (result ≢ Err RunError.Read) × ((result ≢ Err RunError.Write) × (result ≢ Err RunError.Store)) }
 {
     if line.len() as u64 >= BODY_LIMIT - body.len() as u64 {
         return Err(RunError::TooLong);

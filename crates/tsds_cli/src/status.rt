@@ -14,6 +14,9 @@ pub const NO_MEMORY: u8 = 3;
 /// The source failed.
 pub const READ_FAULT: u8 = 4;
 
+/// The keeper failed.
+pub const KEEPER_FAULT: u8 = 6;
+
 /// The sink failed.
 pub const WRITE_FAULT: u8 = 7;
 
@@ -30,6 +33,7 @@ pub fn status_text(status: u8) -> &'static str
         USAGE => "tsds: usage",
         NO_MEMORY => "tsds: out of memory",
         READ_FAULT => "tsds: read fault",
+        KEEPER_FAULT => "tsds: keeper fault",
         WRITE_FAULT => "tsds: write fault",
         TOO_LONG => "tsds: input too long",
         _ => "",

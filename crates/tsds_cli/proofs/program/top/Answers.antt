@@ -1,16 +1,17 @@
-use Rattle.std.proofs.Common.{[], ◌∷◌, refl, lit<, sym, subst}
+use Rattle.std.proofs.Common.{◌≡◌, ◌∙◌, Err, [], ◌∷◌, refl, lit<, ap, sym, subst}
 use Rattle.std.specs.Prelude.{Contains}
 use Rattle.tsds_cli.specs.declared.errors.RunError.{RunError}
-use Rattle.tsds_cli.specs.declared.errors.RunError.TheVariants.{NoMemory, Read, Write, TooLong}
+use Rattle.tsds_cli.specs.declared.errors.RunError.TheVariants.{NoMemory, Store, Read, Write, TooLong}
 use Rattle.tsds_cli.specs.Errors.{status_of}
 use Rattle.tsds_cli.proofs.program.top.Goals as goal
 
--- each error has a status of its own
-known_status : (error : RunError) → Contains (0 ∷ 2 ∷ 3 ∷ 4 ∷ 7 ∷ 8 ∷ []) (status_of error)
-known_status NoMemory = (2, lit< tt, refl)
-known_status Read = (3, lit< tt, refl)
-known_status Write = (4, lit< tt, refl)
-known_status TooLong = (5, lit< tt, refl)
+-- each error has a status of its own, and this machine has no keeper that fails
+known_status : (error : RunError) → (error ≡ Store → ⊥) → Contains (0 ∷ 2 ∷ 3 ∷ 4 ∷ 7 ∷ 8 ∷ []) (status_of error)
+known_status NoMemory kept = (2, lit< tt, refl)
+known_status Read kept = (3, lit< tt, refl)
+known_status Write kept = (4, lit< tt, refl)
+known_status TooLong kept = (5, lit< tt, refl)
+known_status Store kept = absurd (kept refl)
 
 pub returns-in-Err-clause-known : goal.returns-in-Err-clause-known
-returns-in-Err-clause-known g c = subst (λ s. Contains (0 ∷ 2 ∷ 3 ∷ 4 ∷ 7 ∷ 8 ∷ []) s) (sym c.status.ensures) (known_status c.in-Err.error)
+returns-in-Err-clause-known g c = subst (λ s. Contains (0 ∷ 2 ∷ 3 ∷ 4 ∷ 7 ∷ 8 ∷ []) s) (sym c.status.ensures) (known_status c.in-Err.error (λ e. c.run_empty.ensures.kept (c.in-Err.is ∙ ap Err e)))

@@ -38,7 +38,7 @@ returns-in_err-add_line-clause-stopped g c =
     let passed = passed-passed [] [] from here here c.args.reader.now c.lines.reader c.find_line.new.self _ _ _ c.lines.invariant.passed (looked here c.lines.reader c.find_line.new.self _ _ c.find_line.ensures.kept c.find_line.ensures.counted c.find_line.ensures.still) in
     err-stops from c.from_residual-in_err-add_line.result c.in_err-add_line.field-0.0 c.args.reader.now c.find_line.new.self _ _ c.from_residual-in_err-add_line.ensures.1
     (stopped-add from c.in_err-add_line.field-0.0 c.in_ok-piece.piece c.args.heard.now.line.items c.lines.heard.body.items c.line-line.result.now c.args.reader.now c.find_line.new.self _ _ passed c.in_ok-piece.ensures.found (omega arith)
-    (sym c.ends_body.ensures ∙ c.if-ends_body.false) c.line-line.ensures (λ e. c.in_err-add_line.ensures.long (ap Err e)) (λ e. c.in_err-add_line.ensures.others.0 (ap Err e)) (λ e. c.in_err-add_line.ensures.others.1 (ap Err e)))
+    (sym c.ends_body.ensures ∙ c.if-ends_body.false) c.line-line.ensures (λ e. c.in_err-add_line.ensures.long (ap Err e)) (λ e. c.in_err-add_line.ensures.others.0 (ap Err e)) (λ e. c.in_err-add_line.ensures.others.1.0 (ap Err e)) (λ e. c.in_err-add_line.ensures.others.1.1 (ap Err e)))
 
 pub lines-preserved : goal.lines-preserved
 lines-preserved g c =

@@ -1,6 +1,6 @@
 use Rattle.std.proofs.Common.{take, drop, arith, length-drop}
 use Rattle.std.proofs.lemmas.List.{take-append-drop}
-use Rattle.tsds_cli.proofs.program.put_reply.Goals as goal
+use Rattle.tsds_cli.proofs.runs.put_reply.Goals as goal
 
 pub returns-in-Err-clause-part : goal.returns-in-Err-clause-part
 returns-in-Err-clause-part g c = record {
