@@ -5,3 +5,4 @@ pub mod Joined
 pub mod ReadBack
 pub mod Reading
 pub mod Spelled
+pub mod Told

@@ -20,7 +20,7 @@ use Rattle.row_cells.specs.declared.rows.Cell.TheVariants.{Absent, One, Many, Ga
 use Rattle.row_cells.specs.declared.rows.Row.{Row}
 use Rattle.row_cells.specs.Dimensions.{Dimension, IsDimension, IsKeyValue, IsKey, AreDimensions, AreDimensionsAfter, text_bytes, above_least, value_bytes, dimension_bytes, key_bytes}
 use Rattle.row_cells.specs.Fitting.{CellFits, CellsFit, Fits, FieldsAscendAfter, with_dimension, dimensions_of}
-use Rattle.row_cells.specs.Heads.{utf8_word, word_at, whole_at, value_at, value_behind, entry_at, head_of, rest_of, heads_in, head_row_of, dimension_at, dimension_with, in_front_of, first_dimensions, dimensions_in}
+use Rattle.row_cells.specs.Heads.{utf8_word, word_at, whole_at, value_at, value_if, entry_at, head_of, rest_of, heads_in, head_row_of, dimension_at, dimension_with, in_front_of, first_dimensions, dimensions_in}
 use Rattle.row_cells.specs.KeyedLaws.{AreSpellable, IsSpellable, cells_spellable, dimensions_ascend}
 use Rattle.row_cells.specs.KeyLaws.{above_least_is, above_least_short}
 use Rattle.row_cells.specs.Mapped.{IsMapped}
@@ -87,35 +87,38 @@ value_read (Flag false) rest fits = refl
 
 -- ---- dimensions
 
+abbrev dimension_from : List ℕ → Scalar → Dimension
+dimension_from path value = record { path = path; value = value }
+
+-- bytes that begin with a path and a value are read as a dimension
+dimension_back : (path rest : List ℕ) (v : Scalar) → length path < 2 ^ 16 → IsKeyValue v → dimension_at (dimension_bytes (dimension_from path v) ++ rest) ≡ Some (dimension_from path v, rest)
+unfolding dimension_at
+dimension_back path rest v short fits =
+    ap (λ bytes. text_at bytes >>= dimension_with) (append_assoc (text_bytes path) (value_bytes v) rest)
+    ∙ (ap (λ read. read >>= dimension_with) (text_read path (value_bytes v ++ rest) short)
+    ∙ ap (λ read. read >>= (λ value. Some (dimension_from path value.0, value.1))) (value_read v rest fits))
+
+pub dimension_read : (d : Dimension) (rest : List ℕ) → IsDimension d → dimension_at (dimension_bytes d ++ rest) ≡ Some (d, rest)
+dimension_read d rest is = dimension_back d.path rest d.value (omega (arith, is.path_short)) is.value_fits
+
+no_dimension : dimension_at [] ≡ None
+unfolding dimension_at
+no_dimension = ap (λ read. read >>= dimension_with) no_text
+
 -- where bytes begin with the dimension of a path, they have its value there
 pub entry_read : (path rest : List ℕ) (v : Scalar) → length path < 2 ^ 16 → IsKeyValue v → entry_at path (dimension_bytes (record { path = path; value = v }) ++ rest) ≡ Some (v, rest)
 unfolding entry_at
 entry_read path rest v short fits =
-    ap (λ bytes. text_at bytes >>= value_behind path) (append_assoc (text_bytes path) (value_bytes v) rest)
-    ∙ (ap (λ read. read >>= value_behind path) (text_read path (value_bytes v ++ rest) short)
-    ∙ (ap (λ b. cond {A = Option (Scalar × List ℕ)} b (value_at (value_bytes v ++ rest)) None) (same_bytes path path refl) ∙ value_read v rest fits))
+    ap (λ read. read >>= value_if path) (dimension_back path rest v short fits)
+    ∙ ap (λ b. cond {A = Option (Scalar × List ℕ)} b (Some (v, rest)) None) (same_bytes path path refl)
 
 -- and nothing where all dimensions stand behind the path
 pub entry_none : (path : List ℕ) (ds : List Dimension) → AreDimensionsAfter path ds → entry_at path (key_bytes ds) ≡ None
 unfolding entry_at
-entry_none path [] are = ap (λ read. read >>= value_behind path) no_text
+entry_none path [] are = ap (λ read. read >>= value_if path) no_dimension
 entry_none path (d ∷ ds) are =
-    ap (λ bytes. text_at bytes >>= value_behind path) (append_assoc (text_bytes d.path) (value_bytes d.value) (key_bytes ds))
-    ∙ (ap (λ read. read >>= value_behind path) (text_read d.path (value_bytes d.value ++ key_bytes ds) (omega (arith, are.1.path_short)))
-    ∙ ap (λ b. cond {A = Option (Scalar × List ℕ)} b (value_at (value_bytes d.value ++ key_bytes ds)) None) (other_bytes d.path path (λ same. apart path d.path are.0 (sym same))))
-
--- bytes that begin with a dimension are read as it
-pub dimension_read : (d : Dimension) (rest : List ℕ) → IsDimension d → dimension_at (dimension_bytes d ++ rest) ≡ Some (d, rest)
-dimension_read d rest is =
-    ap (λ bytes. text_at bytes >>= dimension_with) (append_assoc (text_bytes d.path) (value_bytes d.value) rest)
-    ∙ (ap (λ read. read >>= dimension_with) (text_read d.path (value_bytes d.value ++ rest) (omega (arith, is.path_short)))
-    ∙ ap (λ read. read >>= (λ value. Some (dimension_from d.path value.0, value.1))) (value_read d.value rest is.value_fits))
-  where
-    dimension_from : List ℕ → Scalar → Dimension
-    dimension_from path value = record { path = path; value = value }
-
-no_dimension : dimension_at [] ≡ None
-no_dimension = ap (λ read. read >>= dimension_with) no_text
+    ap (λ read. read >>= value_if path) (dimension_read d (key_bytes ds) are.1)
+    ∙ ap (λ b. cond {A = Option (Scalar × List ℕ)} b (Some (d.value, key_bytes ds)) None) (other_bytes d.path path (λ same. apart path d.path are.0 (sym same)))
 
 first_read : (n : ℕ) (below : List ℕ) (ds : List Dimension) → length ds ≤ n → AreDimensionsAfter below ds → first_dimensions n (key_bytes ds) ≡ ds
 first_read zero below [] few are = refl

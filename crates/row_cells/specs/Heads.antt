@@ -5,6 +5,9 @@ use Rattle.std.specs.Str.{bytes_eq, is_utf8}
 use Rattle.time_text.specs.Shape.{◌>>=◌}
 use Rattle.row_cells.specs.declared.scalars.Scalar.{Scalar}
 use Rattle.row_cells.specs.declared.scalars.Scalar.TheVariants.{Whole, Flag, Word}
+use Rattle.row_cells.specs.declared.entries.Entry.{Entry}
+use Rattle.row_cells.specs.declared.entries.EntryValue.{EntryValue}
+use Rattle.row_cells.specs.declared.entries.EntryValue.TheVariants.{Whole as WholeValue, Flag as FlagValue, Word as WordValue}
 use Rattle.row_cells.specs.declared.schemas.Field.{Field}
 use Rattle.row_cells.specs.declared.schemas.Schema.{Schema}
 use Rattle.row_cells.specs.declared.rows.Row.{Row}
@@ -15,6 +18,15 @@ use Rattle.row_cells.specs.Texts.{cut, text_at}
 
 abbrev pub utf8_word : List ℕ × List ℕ → Option (Scalar × List ℕ)
 utf8_word text = if is_utf8 text.0 then Some (Word text.0, text.1) else None
+
+-- what the program reads as a value and as a dimension, of which it borrows the texts
+abbrev pub scalar_of : EntryValue → Scalar
+scalar_of (WholeValue number) = Whole number
+scalar_of (FlagValue flag) = Flag flag
+scalar_of (WordValue text) = Word text.now
+
+abbrev pub dimension_seen : Entry → Dimension
+dimension_seen entry = record { path = entry.path.now; value = scalar_of entry.value }
 
 -- a text of UTF-8 as a value
 unfoldable pub word_at : List ℕ → Option (Scalar × List ℕ)
@@ -40,12 +52,19 @@ unfoldable pub value_at : List ℕ → Option (Scalar × List ℕ)
 value_at [] = None
 value_at (tag ∷ bytes) = tagged_at tag bytes
 
-abbrev pub value_behind : List ℕ → List ℕ × List ℕ → Option (Scalar × List ℕ)
-value_behind path text = if bytes_eq text.0 path then value_at text.1 else None
+abbrev pub dimension_with : List ℕ × List ℕ → Option (Dimension × List ℕ)
+dimension_with path = value_at path.1 >>= λ value. Some (record { path = path.0; value = value.0 }, value.1)
+
+-- the dimension that bytes begin with, and what follows it
+unfoldable pub dimension_at : List ℕ → Option (Dimension × List ℕ)
+dimension_at bytes = text_at bytes >>= dimension_with
+
+abbrev pub value_if : List ℕ → Dimension × List ℕ → Option (Scalar × List ℕ)
+value_if path first = if bytes_eq first.0.path path then Some (first.0.value, first.1) else None
 
 -- the value of a dimension with this path, where bytes begin with one
 unfoldable pub entry_at : List ℕ → List ℕ → Option (Scalar × List ℕ)
-entry_at path bytes = text_at bytes >>= value_behind path
+entry_at path bytes = dimension_at bytes >>= value_if path
 
 abbrev pub head_of : Option (Scalar × List ℕ) → Cell
 head_of None = Absent
@@ -63,13 +82,6 @@ heads_in (f ∷ fields) bytes = head_of (entry_at f.path bytes) ∷ heads_in fie
 -- one row with the head of a series: a document at the first instant
 abbrev pub head_row_of : Schema → List ℕ → Row
 head_row_of schema key = record { key = key; time = pos 0; count = 1; cells = heads_in schema.fields key }
-
-abbrev pub dimension_with : List ℕ × List ℕ → Option (Dimension × List ℕ)
-dimension_with path = value_at path.1 >>= λ value. Some (record { path = path.0; value = value.0 }, value.1)
-
--- the dimension that bytes begin with, and what follows it
-abbrev pub dimension_at : List ℕ → Option (Dimension × List ℕ)
-dimension_at bytes = text_at bytes >>= dimension_with
 
 abbrev pub in_front_of : Option (Dimension × List ℕ) → (List ℕ → List Dimension) → List Dimension
 in_front_of None behind = []

@@ -63,6 +63,7 @@ pub record NumberOf (bytes : List ℕ) : Type 0 where
   pub number : ℤ
   pub fits : FitsSigned w64 number
   pub spelled : to_be_bytes w64 (above_least number) ≡ bytes
+  pub number_is : number ≡ pos (from_be_bytes w64 bytes) -ℤ pos (2 ^ 63)
 
 eight_small : (bs : List ℕ) → ((i : ℕ) → get_or bs i 0 < 256) → from_be_bytes w64 bs < 2 ^ 64
 eight_small bs small = omega (arith, small 0, small 1, small 2, small 3, small 4, small 5, small 6, small 7)
@@ -73,7 +74,7 @@ eight_bytes bs eight small =
     let m = from_be_bytes w64 bs in
     let within : m < 2 ^ 64 = eight_small bs small in
     let there : above_least (pos m -ℤ pos (2 ^ 63)) ≡ m = ap unsigned_abs (back m) in
-    record { number = pos m -ℤ pos (2 ^ 63); fits = ranged m within; spelled = be_bytes_8 bs (above_least (pos m -ℤ pos (2 ^ 63))) eight small there }
+    record { number = pos m -ℤ pos (2 ^ 63); fits = ranged m within; spelled = be_bytes_8 bs (above_least (pos m -ℤ pos (2 ^ 63))) eight small there; number_is = refl }
   where
     back : (m : ℕ) → (pos m -ℤ pos (2 ^ 63)) +ℤ pos (2 ^ 63) ≡ pos m
     back m = omega (arith, ints)

@@ -19,6 +19,7 @@ pub mod Merging
 pub mod Order
 pub mod OrderLaws
 pub mod PlaceLaws
+pub mod RangeLaws
 pub mod Reach
 pub mod RowLists
 pub mod SetLaws

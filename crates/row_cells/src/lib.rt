@@ -23,7 +23,7 @@ pub use checks::{are_few, are_in_row_order, have_short_lists};
 pub use copies::{
     copy_cell, copy_cells, copy_field, copy_row, copy_scalar, copy_scalars, copy_schema,
 };
-pub use entries::{Entry, read_entry};
+pub use entries::{Entry, EntryValue, read_entry};
 pub use fits::fit_cells;
 pub use folding::{fold_row, merge_rows, merges_in_any_grouping};
 pub use heads::{head_row, heads_of};

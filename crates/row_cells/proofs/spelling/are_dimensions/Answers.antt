@@ -13,7 +13,7 @@ returns-in_default-bytes_order c =
     let read = c.in-Some.ensures.some in (
       λ f. cc,
       λ spells.
-          let after = spelled_after c.loop-below.below.now c.loop-below.rest.now c.in-Some.piece.rest.now read.0 read.1 read.3 (c.loop-below.invariant.0 spells) in
+          let after = spelled_after c.loop-below.below.now c.loop-below.rest.now c.in-Some.entry.rest.now read.0 read.1 read.3 (c.loop-below.invariant.0 spells) in
           absurd (c.in_default-bytes_order.not-Less (c.bytes_order.ensures ∙ subst (λ p. IsBefore c.loop-below.below.now p) read.2 after.0)),
     )
 
@@ -22,7 +22,7 @@ loop-below-preserved c =
     let read = c.in-Some.ensures.some in
     let before : IsBefore c.loop-below.below.now read.0.path = subst (λ p. IsBefore c.loop-below.below.now p) (sym read.2) (sym c.bytes_order.ensures ∙ c.in-Less.is) in (
       λ spells.
-          let after = spelled_after c.loop-below.below.now c.loop-below.rest.now c.in-Some.piece.rest.now read.0 read.1 read.3 (c.loop-below.invariant.0 spells) in
-          subst (λ p. SpellDimensionsAfter p c.in-Some.piece.rest.now) read.2 after.1,
-      λ spells. c.loop-below.invariant.1 (spelled_before c.loop-below.below.now c.loop-below.rest.now c.in-Some.piece.rest.now read.0 read.1 read.3 before (subst (λ p. SpellDimensionsAfter p c.in-Some.piece.rest.now) (sym read.2) spells)),
+          let after = spelled_after c.loop-below.below.now c.loop-below.rest.now c.in-Some.entry.rest.now read.0 read.1 read.3 (c.loop-below.invariant.0 spells) in
+          subst (λ p. SpellDimensionsAfter p c.in-Some.entry.rest.now) read.2 after.1,
+      λ spells. c.loop-below.invariant.1 (spelled_before c.loop-below.below.now c.loop-below.rest.now c.in-Some.entry.rest.now read.0 read.1 read.3 before (subst (λ p. SpellDimensionsAfter p c.in-Some.entry.rest.now) (sym read.2) spells)),
     )
