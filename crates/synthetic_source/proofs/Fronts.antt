@@ -1,9 +1,9 @@
--- Fronts of paths.
-use Rattle.std.proofs.Common.{◌≡◌, ℕ, zero, suc, ◌+◌, ◌-◌, ◌<◌, ◌≤◌, min, List, [], ◌∷◌, ◌++◌, take, drop, length, get_or, false, ◌||◌, refl, sym, ap, ap₂, ◌∙◌, subst, arith}
+-- Fronts of paths, and paths that were told.
+use Rattle.std.proofs.Common.{◌≡◌, ℕ, zero, suc, ◌+◌, ◌-◌, ◌<◌, ◌≤◌, min, List, [], ◌∷◌, ◌++◌, take, drop, length, get_or, Bool, true, false, cond, ◌||◌, Option, Some, None, true≢false, refl, sym, ap, ap₂, ◌∙◌, subst, arith}
 use Rattle.std.specs.List.{list_any}
 use Rattle.std.specs.Cmp.{tied_itself}
-use Rattle.std.specs.Cmp.Lexicographic.{slice_cmp}
-use Rattle.std.specs.Ordering.{nat_cmp, ordering_then}
+use Rattle.std.specs.Cmp.Lexicographic.{slice_cmp, nat_list_cmp_total}
+use Rattle.std.specs.Ordering.{nat_cmp, is_lt, ordering_then}
 use Rattle.std.specs.declared.cmp.Ordering.TheVariants.{Equal}
 use Rattle.std.proofs.lemmas.Cmp.{nat_cmp_total}
 use Rattle.std.proofs.lemmas.List.{length-append, length-take, take-append-le, take_more, get_or-take}
@@ -13,8 +13,11 @@ use Rattle.ts_mapping.specs.Paths.{is_among, is_below}
 use Rattle.ts_mapping.specs.Schemas.{AreTemplateFields}
 use Rattle.row_cells.specs.Limits.{longest_path}
 use Rattle.ts_mapping.specs.PathLaws.{none_below, short_path}
-use Rattle.synthetic_source.specs.Fronts.{IsClear, IsKnown, SharesFront, held_path, path_at}
-use Rattle.synthetic_source.specs.Gathered.{paths_of}
+use Rattle.synthetic_source.specs.Fronts.{AreFronts, IsClear, IsKnown, IsTold, SharesFront, held_path, path_at}
+use Rattle.synthetic_source.specs.Faults.{stray_fault}
+use Rattle.synthetic_source.specs.Gathered.{paths_of, place_of}
+use Rattle.synthetic_source.specs.Walked.{comes_first, least_step, or_held, seen_fault}
+use Rattle.synthetic_source.specs.declared.errors.DocKind.{DocKind}
 use Rattle.synthetic_source.specs.declared.strays.Strays.{Strays}
 use Rattle.synthetic_source.proofs.Grouping.{other_bytes}
 use Rattle.synthetic_source.proofs.Near.{Bytes, any_paths, below, same, above, bytes_are}
@@ -62,28 +65,48 @@ clear_more fields p q n within clear k lt dot =
     subst (λ r. is_among r (paths_of fields) ≡ false) (sym (take-append-le k p q (omega arith)))
     (clear k lt (sym (get_or-append p q 0 k (omega arith)) ∙ dot))
 
-known_more : (fields : List Field) (p q : List ℕ) (s : Strays) → IsKnown fields p s → IsKnown fields (p ++ q) s
-known_more fields p q s is = record {
+fronts_more : (fields : List Field) (p q : List ℕ) (s : Strays) → AreFronts fields p s → AreFronts fields (p ++ q) s
+fronts_more fields p q s is = record {
   shares = shares_more s p q is.shares;
   clear = clear_more fields p q s.clear is.within is.clear;
   within = omega (arith, length-append p q, is.within);
 }
 
-known_enter : (fields : List Field) (place name : List ℕ) (s : Strays) → IsKnown fields (path_at place) s → IsKnown fields (path_at (place ++ 46 ∷ name)) s
-known_enter fields [] name s is = known_more fields [] name s is
-known_enter fields (dot ∷ path) name s is = known_more fields path (46 ∷ name) s is
+fronts_enter : (fields : List Field) (place name : List ℕ) (s : Strays) → AreFronts fields (path_at place) s → AreFronts fields (path_at (place ++ 46 ∷ name)) s
+fronts_enter fields [] name s is = fronts_more fields [] name s is
+fronts_enter fields (dot ∷ path) name s is = fronts_more fields path (46 ∷ name) s is
 
-pub known_entered : (fields : List Field) (place name inner : List ℕ) (s : Strays) → inner ≡ place ++ 46 ∷ name → IsKnown fields (path_at place) s → IsKnown fields (path_at inner) s
-known_entered fields place name inner s goes is = subst (λ p. IsKnown fields (path_at p) s) (sym goes) (known_enter fields place name s is)
+-- only what is told of the path itself is forgotten
+fronts_of : (fields : List Field) (path : List ℕ) (s t : Strays) → t.least ≡ s.least → t.shared ≡ s.shared → t.clear ≡ s.clear → AreFronts fields path s → AreFronts fields path t
+fronts_of fields path s t least shared clear is = record {
+  shares = record {
+    same = ap (λ n. take n path) shared ∙ (is.shares.same ∙ sym (ap₂ (λ n l. take n (held_path l)) shared least));
+    within = omega (arith, shared, is.shares.within);
+    held = subst (λ l. t.shared ≤ length (held_path l)) (sym least) (omega (arith, shared, is.shares.held));
+  };
+  clear = subst (IsClear fields path) (sym clear) is.clear;
+  within = omega (arith, clear, is.within);
+}
+
+untold : (strict : Bool) (fields : List Field) (path : List ℕ) (t : Strays) → t.is_told ≡ false → AreFronts fields path t → IsKnown strict fields path t
+untold strict fields path t never fronts = record { fronts = fronts; told = λ told. absurd (true≢false (sym told ∙ never)) }
+
+pub known_entered : (strict : Bool) (fields : List Field) (place name inner : List ℕ) (s t : Strays) → inner ≡ place ++ 46 ∷ name → t ≡ record s { is_told = false }
+    → IsKnown strict fields (path_at place) s → IsKnown strict fields (path_at inner) t
+known_entered strict fields place name inner s t goes is_t is =
+    subst (λ p. IsKnown strict fields (path_at p) t) (sym goes)
+    (subst (IsKnown strict fields (path_at (place ++ 46 ∷ name))) (sym is_t)
+    (untold strict fields (path_at (place ++ 46 ∷ name)) (record s { is_told = false }) refl (fronts_of fields (path_at (place ++ 46 ∷ name)) s (record s { is_told = false }) refl refl refl (fronts_enter fields place name s is.fronts))))
 
 -- ---- going back
 
-pub known_leave : (fields : List Field) (place : List ℕ) (n : ℕ) (s t : Strays) → t.least ≡ s.least → t.shared ≡ min s.shared (n - 1) → t.clear ≡ min s.clear (n - 1)
-    → IsKnown fields (path_at place) s → IsKnown fields (path_at (take n place)) t
-known_leave fields place n s t least shared clear is =
+pub known_leave : (strict : Bool) (fields : List Field) (place : List ℕ) (n : ℕ) (s t : Strays) → t.least ≡ s.least → t.shared ≡ min s.shared (n - 1) → t.clear ≡ min s.clear (n - 1) → t.is_told ≡ false
+    → IsKnown strict fields (path_at place) s → IsKnown strict fields (path_at (take n place)) t
+known_leave strict fields place n s t least shared clear never known =
     let m = n - 1 in
     let path = path_at place in
-    subst (λ p. IsKnown fields p t) (sym (path_front place n)) (record {
+    let is = known.fronts in
+    subst (λ p. IsKnown strict fields p t) (sym (path_front place n)) (untold strict fields (take m path) t never (record {
       shares = record {
         same =
             shorter_take t.shared m path (omega arith)
@@ -97,6 +120,39 @@ known_leave fields place n s t least shared clear is =
           subst (λ r. is_among r (paths_of fields) ≡ false) (sym (shorter_take k m path (omega arith)))
           (is.clear k (omega arith) (sym (get_or-take m path k 0 (omega arith)) ∙ dot));
       within = omega (arith, length-take m path, is.within);
+    }))
+
+-- ---- a path that is told twice
+
+-- told once more, a path changes nothing
+told_twice : (strict : Bool) (fields : List Field) (p : List ℕ) (held : Option (DocKind × List ℕ)) → least_step strict fields p (least_step strict fields p held) ≡ least_step strict fields p held
+told_twice strict fields p held = go (comes_first p held) refl (stray_fault strict fields p) refl
+  where
+    itself : (kind : DocKind) → comes_first p (Some (kind, p)) ≡ false
+    itself kind = ap is_lt (tied_itself nat_list_cmp_total p)
+
+    by : (o : Option DocKind) → stray_fault strict fields p ≡ o → comes_first p held ≡ true → least_step strict fields p (or_held o p held) ≡ or_held o p held
+    by None none first = ap (λ b. cond b (or_held (stray_fault strict fields p) p held) held) first ∙ ap (λ o. or_held o p held) none
+    by (Some kind) some first = ap (λ b. cond b (or_held (stray_fault strict fields p) p (Some (kind, p))) (Some (kind, p))) (itself kind)
+
+    go : (v : Bool) → comes_first p held ≡ v → (o : Option DocKind) → stray_fault strict fields p ≡ o
+        → least_step strict fields p (cond v (or_held (stray_fault strict fields p) p held) held) ≡ cond v (or_held (stray_fault strict fields p) p held) held
+    go true first o is = ap (λ x. least_step strict fields p (or_held x p held)) is ∙ (by o is first ∙ ap (λ x. or_held x p held) (sym is))
+    go false first o is = ap (λ b. cond b (or_held (stray_fault strict fields p) p held) held) first
+
+told_is : (strict : Bool) (fields : List Field) (p : List ℕ) (s t : Strays) → place_of p fields ≡ None → seen_fault t.least ≡ least_step strict fields p (seen_fault s.least) → IsTold strict fields p t
+told_is strict fields p s t nowhere is = record {
+  nowhere = nowhere;
+  settled = ap (least_step strict fields p) is ∙ (told_twice strict fields p (seen_fault s.least) ∙ sym is);
+}
+
+-- what was told is known to be told
+pub told_known : (strict : Bool) (fields : List Field) (p : List ℕ) (s r t : Strays) → place_of p fields ≡ None → seen_fault r.least ≡ least_step strict fields p (seen_fault s.least) → AreFronts fields p r
+    → t ≡ record r { is_told = true } → IsKnown strict fields p t
+told_known strict fields p s r t nowhere is fronts is_t =
+    subst (IsKnown strict fields p) (sym is_t) (record {
+      fronts = fronts_of fields p r (record r { is_told = true }) refl refl refl fronts;
+      told = λ told. told_is strict fields p s (record r { is_told = true }) nowhere is;
     })
 
 -- ---- fields above

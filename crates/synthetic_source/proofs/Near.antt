@@ -1,5 +1,5 @@
 -- Fields above and below a path.
-use Rattle.std.proofs.Common.{◌≡◌, ◌≢◌, ◌⊎◌, inl, inr, ℕ, zero, suc, ◌+◌, ◌<◌, ◌≤◌, List, [], ◌∷◌, length, get_or, Bool, true, false, cond, ◌&&◌, ◌||◌, nat_eq, nat_lt, bytes_eq, refl, sym, ap, ◌∙◌, subst, arith, le-leb, eq-eqb, ltb-true, ltb-false, eqb-true}
+use Rattle.std.proofs.Common.{◌≡◌, ◌≢◌, ◌⊎◌, inl, inr, ℕ, zero, suc, ◌+◌, ◌<◌, ◌≤◌, min, List, [], ◌∷◌, length, take, drop, get_or, Bool, true, false, cond, ◌&&◌, ◌||◌, nat_eq, nat_lt, bytes_eq, refl, sym, ap, ◌∙◌, subst, arith, le-leb, eq-eqb, ltb-true, ltb-false, eqb-true}
 use Rattle.std.specs.List.{list_any}
 use Rattle.std.specs.Option.{is_some}
 use Rattle.std.specs.Cmp.Lexicographic.{slice_cmp}
@@ -76,6 +76,35 @@ below_side (b ∷ x) (c ∷ p) = go (bytes_are b c) (below_side x p)
     go (below lt) later = ap (λ v. v && is_below x p) (differ b c (λ e. omega arith)) ∙ sym (ap is_eq (by_below b c (side x p) lt))
     go (same e) later = ap (λ v. v && is_below x p) (eq-eqb b c e) ∙ (later ∙ sym (ap is_eq (by_same b c (side x p) e)))
     go (above lt) later = ap (λ v. v && is_below x p) (differ b c (λ e. omega arith)) ∙ sym (ap is_eq (by_above b c (side x p) lt))
+
+take_nothing : (n : ℕ) → take {A = ℕ} n [] ≡ []
+take_nothing zero = refl
+take_nothing (suc n) = refl
+
+-- the side is told by the front as long as the other path, and else by what stands behind it
+pub side_by_front : (x p : List ℕ) → side x p ≡ match_ordering (slice_cmp nat_cmp (take (min (length p) (length x)) x) p) Less (side (drop (length p) x) []) Greater
+side_by_front [] [] = refl
+side_by_front [] (c ∷ p) = ap (λ xs. match_ordering (slice_cmp nat_cmp xs (c ∷ p)) Less Less Greater) (sym (take_nothing (min (suc (length p)) 0)))
+side_by_front (b ∷ x) [] = let none : 0 ≡ min 0 (suc (length x)) = omega arith in ap (λ n. match_ordering (slice_cmp nat_cmp (take n (b ∷ x)) []) Less (side (b ∷ x) []) Greater) none
+side_by_front (b ∷ x) (c ∷ p) =
+    go (nat_cmp b c) (ranks b c) (side_by_front x p)
+    ∙ ap (λ n. match_ordering (slice_cmp nat_cmp (take n (b ∷ x)) (c ∷ p)) Less (side (drop (length p) x) []) Greater) one_more
+  where
+    one_more : suc (min (length p) (length x)) ≡ min (suc (length p)) (suc (length x))
+    one_more = omega arith
+
+    rest : Ordering → Ordering
+    rest o = match_ordering o Less (side (drop (length p) x) []) Greater
+
+    go : (o : Ordering) → MatchOrdering o (b < c) (b ≡ c) (c < b) → side x p ≡ rest (slice_cmp nat_cmp (take (min (length p) (length x)) x) p)
+        → side_by b c (side x p) ≡ rest (ordering_then o (slice_cmp nat_cmp (take (min (length p) (length x)) x) p))
+    go Less lt later = by_below b c (side x p) lt
+    go Equal e later = by_same b c (side x p) e ∙ later
+    go Greater lt later = by_above b c (side x p) lt
+
+pub side_front : (x p front : List ℕ) (n : ℕ) (o : Ordering) → n ≡ min (length p) (length x) → front ≡ take n x → o ≡ slice_cmp nat_cmp front p → match_ordering o Less (side (drop (length p) x) []) Greater ≡ side x p
+side_front x p front n o is_n is_front is_o =
+    ap (λ q. match_ordering q Less (side (drop (length p) x) []) Greater) (is_o ∙ ap (λ f. slice_cmp nat_cmp f p) (is_front ∙ ap (λ m. take m x) is_n)) ∙ sym (side_by_front x p)
 
 -- what a text before another is like
 data Before (b : ℕ) (x : List ℕ) (c : ℕ) (y : List ℕ) : Type 0 where

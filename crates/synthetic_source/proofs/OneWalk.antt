@@ -22,7 +22,7 @@ use Rattle.synthetic_source.specs.Gathered.{AreReadAs, by_field, leaves_after, p
 use Rattle.synthetic_source.specs.Places.{Place, Rise, RiseAfter, found_if, later_place, place_among}
 use Rattle.synthetic_source.specs.Outcomes.{IsDecided, IsOutcome, IsSettled}
 use Rattle.synthetic_source.specs.Strays.{seen_stray}
-use Rattle.synthetic_source.specs.Walked.{Held, after, at_place, here_of, nothing_held, with_entry}
+use Rattle.synthetic_source.specs.Walked.{Held, after, at_place, here_of, least_step, nothing_held, with_entry}
 use Rattle.synthetic_source.specs.declared.errors.DocKind.{DocKind}
 use Rattle.synthetic_source.specs.declared.reading.Cells.{Cells}
 use Rattle.synthetic_source.specs.declared.typing.Outcome.{Outcome}
@@ -137,6 +137,10 @@ stop_some p fs at d rise some = stops_at p fs rise ∙ ap stop_by (field_of_plac
 pub held_put : (strict : Bool) (fields : List Field) (h : Held) (p : List ℕ) (d : Data) (at : ℕ) (slots : List (List Data)) → place_of p fields ≡ Some at → slots ≡ with_leaf fields p d h.slots
     → record { slots = slots; least = h.least } ≡ with_entry strict fields h p d
 held_put strict fields h p d at slots some is = ap (λ xs. record { slots = xs; least = h.least }) is ∙ sym (ap (λ o. at_place o strict fields h p d) some)
+
+-- a path that was told already changes nothing
+pub held_told : (strict : Bool) (fields : List Field) (h : Held) (p : List ℕ) (d : Data) → place_of p fields ≡ None → least_step strict fields p h.least ≡ h.least → h ≡ with_entry strict fields h p d
+held_told strict fields h p d nowhere settled = sym (ap (λ o. at_place o strict fields h p d) nowhere ∙ ap (λ l. record { slots = h.slots; least = l }) settled)
 
 go_on : (strict : Bool) (fields : List Field) (h g : Held) (es gs : List (List ℕ × Data)) → g ≡ after strict fields h es → after strict fields g gs ≡ after strict fields h (es ++ gs)
 go_on strict fields h g es gs is = ap (λ x. after strict fields x gs) is ∙ sym (after-append strict fields h es gs)

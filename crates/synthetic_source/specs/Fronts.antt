@@ -1,9 +1,10 @@
--- What is known of the front of the path that a walk is at; for private clauses.
-use Rattle.std.specs.Prelude.{◌≡◌, ◌<◌, ◌≤◌, ℕ, false, List, [], ◌∷◌, take, length, Option, Some, None}
+-- What is known of the path that a walk is at, and of its front; for private clauses.
+use Rattle.std.specs.Prelude.{◌≡◌, ◌<◌, ◌≤◌, ℕ, Bool, true, false, List, [], ◌∷◌, take, length, Option, Some, None}
 use Rattle.std.specs.List.{slice_index_or}
 use Rattle.row_cells.specs.declared.schemas.Field.{Field}
 use Rattle.ts_mapping.specs.Paths.{is_among}
-use Rattle.synthetic_source.specs.Gathered.{paths_of}
+use Rattle.synthetic_source.specs.Gathered.{paths_of, place_of}
+use Rattle.synthetic_source.specs.Walked.{least_step, seen_fault}
 use Rattle.synthetic_source.specs.declared.strays.LeastFault.{LeastFault}
 use Rattle.synthetic_source.specs.declared.strays.Strays.{Strays}
 
@@ -26,7 +27,16 @@ pub record SharesFront (path : List ℕ) (s : Strays) : Type 0 where
   pub within : s.shared ≤ length path
   pub held : s.shared ≤ length (held_path s.least)
 
-pub record IsKnown (fields : List Field) (path : List ℕ) (s : Strays) : Type 0 where
+pub record AreFronts (fields : List Field) (path : List ℕ) (s : Strays) : Type 0 where
   pub shares : SharesFront path s
   pub clear : IsClear fields path s.clear
   pub within : s.clear ≤ length path
+
+-- no field is at the path, and telling it once more changes nothing
+pub record IsTold (strict : Bool) (fields : List Field) (path : List ℕ) (s : Strays) : Type 0 where
+  pub nowhere : place_of path fields ≡ None
+  pub settled : least_step strict fields path (seen_fault s.least) ≡ seen_fault s.least
+
+pub record IsKnown (strict : Bool) (fields : List Field) (path : List ℕ) (s : Strays) : Type 0 where
+  pub fronts : AreFronts fields path s
+  pub told : s.is_told ≡ true → IsTold strict fields path s

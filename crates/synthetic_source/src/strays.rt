@@ -1,8 +1,9 @@
 // Leaves where no field is, and the least of their paths that has a fault.
 //
 // Paths of a document may be long, and most of a path may stand before many leaves. So what is known of the front of the path
-// that a walk is at stays known while that front does: each byte is compared and copied once.
-ghost use Rattle.std.specs.Prelude.{◌≡◌, ◌≤◌, List, [], ◌∷◌, ◌++◌, Some, None, drop, take, length, OnOk};
+// that a walk is at stays known while that front does: each byte is compared and copied once. And many leaves may have one path,
+// the elements of an array: it is looked at for the first of them alone.
+ghost use Rattle.std.specs.Prelude.{◌≡◌, ◌≤◌, Bool, List, [], ◌∷◌, ◌++◌, Some, None, drop, take, length, OnOk};
 ghost use Rattle.std.specs.List.{list_any};
 ghost use Rattle.std.specs.Cmp.Lexicographic.{slice_cmp};
 ghost use Rattle.std.specs.Ordering.{is_lt, nat_cmp};
@@ -11,8 +12,8 @@ ghost use Rattle.row_cells.specs.declared.schemas.Field.{Field};
 ghost use Rattle.ts_mapping.specs.Paths.{is_among, is_below as below};
 ghost use Rattle.ts_mapping.specs.Schemas.{AreTemplateFields};
 ghost use Rattle.synthetic_source.specs.Faults.{near, stray_fault};
-ghost use Rattle.synthetic_source.specs.Fronts.{IsClear, IsKnown, SharesFront, path_at};
-ghost use Rattle.synthetic_source.specs.Gathered.{paths_of};
+ghost use Rattle.synthetic_source.specs.Fronts.{AreFronts, IsClear, IsKnown, SharesFront, path_at};
+ghost use Rattle.synthetic_source.specs.Gathered.{paths_of, place_of};
 ghost use Rattle.synthetic_source.specs.Sides.{side};
 ghost use Rattle.synthetic_source.specs.Walked.{comes_first as is_first, least_step, or_held, seen_fault};
 
@@ -38,6 +39,8 @@ pub struct Strays {
     pub shared: usize,
     // Before none of the dots among so many first bytes stands a field's path.
     pub clear: usize,
+    // It was told already, whole.
+    pub is_told: bool,
 }
 
 const DOC_COUNT: &str = "_doc_count";
@@ -46,18 +49,12 @@ const DOC_COUNT: &str = "_doc_count";
 fn side_of(path: &[u8], above: &[u8]) -> Ordering
     ensures { result ≡ side path.now above.now }
 {
-    for i in 0..above.len() {
-        if i >= path.len() {
-            return Ordering::Less;
-        }
-        if path[i] < above[i] {
-            return Ordering::Less;
-        }
-        if above[i] < path[i] {
-            return Ordering::Greater;
-        }
+    let (front, _) = path.split_at(above.len().min(path.len()));
+    match order(front, above) {
+        Ordering::Less => Ordering::Less,
+        Ordering::Equal => side_of_rest(path, above.len()),
+        Ordering::Greater => Ordering::Greater,
     }
-    side_of_rest(path, above.len())
 }
 
 // By what stands behind the other.
@@ -206,6 +203,7 @@ fn comes_first(path: &[u8], strays: &mut Strays) -> bool
     ensures shares { SharesFront path.now strays.new }
     ensures least { strays.new.least ≡ strays.old.least }
     ensures clear { strays.new.clear ≡ strays.old.clear }
+    ensures told { strays.new.is_told ≡ strays.old.is_told }
 {
     match &strays.least {
         None => true,
@@ -245,18 +243,19 @@ impl Strays {
     /// Nothing was told yet.
     pub fn new() -> Strays
         ensures none { seen_fault result.least ≡ None }
-        ensures known { (fields : List Field) → IsKnown fields [] result }
+        ensures known { (strict : Bool) (fields : List Field) → IsKnown strict fields [] result }
     {
         Strays {
             least: None,
             shared: 0,
             clear: 0,
+            is_told: false,
         }
     }
 }
 
-/// Tells a path where no field is.
-pub fn note_stray(
+// Tells a path that wasn't told.
+fn tell(
     alloc: Global,
     strict: bool,
     fields: &[Field],
@@ -265,9 +264,9 @@ pub fn note_stray(
 ) -> Result<(), NoMemory>
     requires ascend { FieldsAscend fields.now }
     requires fields { AreTemplateFields fields.now }
-    requires known { IsKnown fields.now path.now strays.old }
+    requires fronts { AreFronts fields.now path.now strays.old }
     ensures held { OnOk result (seen_fault strays.new.least ≡ least_step strict fields.now path.now (seen_fault strays.old.least)) }
-    ensures known { OnOk result (IsKnown fields.now path.now strays.new) }
+    ensures fronts { OnOk result (AreFronts fields.now path.now strays.new) }
 {
     if !comes_first(path, strays) {
         return Ok(());
@@ -280,19 +279,43 @@ pub fn note_stray(
     }
 }
 
-/// Goes to a member. Its path begins with that of the place, so what is known of the front stays known: fields and strays are
-/// taken to say so.
+/// Tells a path where no field is.
+#[tactic(auto, using(crate::proofs::Fronts::told_known))]
+pub fn note_stray(
+    alloc: Global,
+    strict: bool,
+    fields: &[Field],
+    path: &[u8],
+    strays: &mut Strays,
+) -> Result<(), NoMemory>
+    requires ascend { FieldsAscend fields.now }
+    requires fields { AreTemplateFields fields.now }
+    requires nowhere { place_of path.now fields.now ≡ None }
+    requires known { IsKnown strict fields.now path.now strays.old }
+    ensures held { OnOk result (seen_fault strays.new.least ≡ least_step strict fields.now path.now (seen_fault strays.old.least)) }
+    ensures known { OnOk result (IsKnown strict fields.now path.now strays.new) }
+{
+    tell(alloc, strict, fields, path, strays)?;
+    strays.is_told = true;
+    Ok(())
+}
+
+/// Goes to a member. Its path begins with that of the place, so what is known of the front stays known: whether mappings are
+/// strict and fields are taken to say so.
 #[tactic(auto, using(crate::proofs::Fronts::known_entered))]
 pub fn enter(
     name: &str,
     place: &mut Vec<u8>,
+    _strict: bool,
     _fields: &[Field],
-    _strays: &Strays,
+    strays: &mut Strays,
 ) -> Result<(), NoMemory>
-    requires { IsKnown _fields.now (path_at place.old.items) _strays.now }
+    requires { IsKnown _strict _fields.now (path_at place.old.items) strays.old }
     ensures place { OnOk result (place.new.items ≡ place.old.items ++ 46 ∷ name.now) }
-    ensures known { OnOk result (IsKnown _fields.now (path_at place.new.items) _strays.now) }
+    ensures least { strays.new.least ≡ strays.old.least }
+    ensures known { OnOk result (IsKnown _strict _fields.now (path_at place.new.items) strays.new) }
 {
+    strays.is_told = false;
     place.push(b'.')?;
     place.extend_from_slice(name.as_bytes())?;
     Ok(())
@@ -302,10 +325,11 @@ pub fn enter(
 pub fn leave(place: &mut Vec<u8>, length: usize, strays: &mut Strays)
     ensures place { place.new.items ≡ take length place.old.items }
     ensures least { strays.new.least ≡ strays.old.least }
-    ensures known { (fields : List Field) → IsKnown fields (path_at place.old.items) strays.old → IsKnown fields (path_at place.new.items) strays.new }
+    ensures known { (strict : Bool) (fields : List Field) → IsKnown strict fields (path_at place.old.items) strays.old → IsKnown strict fields (path_at place.new.items) strays.new }
 {
     place.truncate(length);
     let path = length.saturating_sub(1);
     strays.shared = strays.shared.min(path);
     strays.clear = strays.clear.min(path);
+    strays.is_told = false;
 }

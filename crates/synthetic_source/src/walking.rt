@@ -74,11 +74,14 @@ fn put_at<'d>(
     requires ascend { FieldsAscend fields.now }
     requires fields { AreTemplateFields fields.now }
     requires long { length walk.old.slots.items ≡ length fields.now }
-    requires known { IsKnown fields.now path.now walk.old.strays }
+    requires known { IsKnown strict fields.now path.now walk.old.strays }
     ensures held { OnOk result (seen_walk walk.new ≡ with_entry strict fields.now (seen_walk walk.old) path.now (view value.now)) }
     ensures long { length walk.new.slots.items ≡ length walk.old.slots.items }
-    ensures known { OnOk result (IsKnown fields.now path.now walk.new.strays) }
+    ensures known { OnOk result (IsKnown strict fields.now path.now walk.new.strays) }
 {
+    if walk.strays.is_told {
+        return Ok(());
+    }
     match find_field(fields, path, walk.next) {
         None => note_stray(alloc, strict, fields, path, &mut walk.strays),
         Some(at) => {
@@ -100,10 +103,10 @@ fn put<'d>(
     requires ascend { FieldsAscend fields.now }
     requires fields { AreTemplateFields fields.now }
     requires long { length walk.old.slots.items ≡ length fields.now }
-    requires known { IsKnown fields.now (path_at place.now) walk.old.strays }
+    requires known { IsKnown strict fields.now (path_at place.now) walk.old.strays }
     ensures held { OnOk result (seen_walk walk.new ≡ after strict fields.now (seen_walk walk.old) (placed (here_of place.now) (view value.now))) }
     ensures long { length walk.new.slots.items ≡ length walk.old.slots.items }
-    ensures known { OnOk result (IsKnown fields.now (path_at place.now) walk.new.strays) }
+    ensures known { OnOk result (IsKnown strict fields.now (path_at place.now) walk.new.strays) }
 {
     match place.split_first() {
         None => Ok(()),
@@ -123,12 +126,12 @@ fn walk_value<'d>(
     requires ascend { FieldsAscend fields.now }
     requires fields { AreTemplateFields fields.now }
     requires long { length walk.old.slots.items ≡ length fields.now }
-    requires known { IsKnown fields.now (path_at place.old.items) walk.old.strays }
+    requires known { IsKnown strict fields.now (path_at place.old.items) walk.old.strays }
     ensures place { OnOk result (place.new.items ≡ place.old.items) }
     ensures held { OnOk result (seen_walk walk.new
         ≡ after strict fields.now (seen_walk walk.old) (listed (stops_of fields.now) (here_of place.old.items) (view value.now))) }
     ensures long { length walk.new.slots.items ≡ length walk.old.slots.items }
-    ensures known { OnOk result (IsKnown fields.now (path_at place.new.items) walk.new.strays) }
+    ensures known { OnOk result (IsKnown strict fields.now (path_at place.new.items) walk.new.strays) }
 {
     match value {
         Value::Null => Ok(()),
@@ -160,12 +163,12 @@ fn walk_items<'d>(
     requires ascend { FieldsAscend fields.now }
     requires fields { AreTemplateFields fields.now }
     requires long { length walk.old.slots.items ≡ length fields.now }
-    requires known { IsKnown fields.now (path_at place.old.items) walk.old.strays }
+    requires known { IsKnown strict fields.now (path_at place.old.items) walk.old.strays }
     ensures place { OnOk result (place.new.items ≡ place.old.items) }
     ensures held { OnOk result (seen_walk walk.new
         ≡ after strict fields.now (seen_walk walk.old) (listed_items (stops_of fields.now) (here_of place.old.items) (items_view items.now.items))) }
     ensures long { length walk.new.slots.items ≡ length walk.old.slots.items }
-    ensures known { OnOk result (IsKnown fields.now (path_at place.new.items) walk.new.strays) }
+    ensures known { OnOk result (IsKnown strict fields.now (path_at place.new.items) walk.new.strays) }
 {
     for item in items {
         walk_value(alloc, strict, fields, item, place, walk)?;
@@ -185,16 +188,16 @@ fn walk_members<'d>(
     requires ascend { FieldsAscend fields.now }
     requires fields { AreTemplateFields fields.now }
     requires long { length walk.old.slots.items ≡ length fields.now }
-    requires known { IsKnown fields.now (path_at place.old.items) walk.old.strays }
+    requires known { IsKnown strict fields.now (path_at place.old.items) walk.old.strays }
     ensures place { OnOk result (place.new.items ≡ place.old.items) }
     ensures held { OnOk result (seen_walk walk.new
         ≡ after strict fields.now (seen_walk walk.old) (listed_members (stops_of fields.now) (here_of place.old.items) (members_view members.now.entries))) }
     ensures long { length walk.new.slots.items ≡ length walk.old.slots.items }
-    ensures known { OnOk result (IsKnown fields.now (path_at place.new.items) walk.new.strays) }
+    ensures known { OnOk result (IsKnown strict fields.now (path_at place.new.items) walk.new.strays) }
 {
     let length = place.as_slice().len();
     for (name, member) in members.iter() {
-        enter(name.as_str(), place, fields, &walk.strays)?;
+        enter(name.as_str(), place, strict, fields, &mut walk.strays)?;
         walk_value(alloc, strict, fields, member, place, walk)?;
         leave(place, length, &mut walk.strays);
     }

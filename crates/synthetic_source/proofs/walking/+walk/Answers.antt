@@ -2,7 +2,7 @@ use Rattle.std.proofs.Common.{◌≡◌, [], ◌∷◌, ◌++◌, length, map, t
 use Rattle.std.proofs.Math.Seq.{take-append_seam}
 use Rattle.std.proofs.lemmas.Result.{on_ok_weaker}
 use Rattle.serde_json.specs.View.{view, members_view}
-use Rattle.json_walk.specs.Listed.{listed_members, placed}
+use Rattle.json_walk.specs.Listed.{listed, listed_members, placed}
 use Rattle.json_walk.specs.Path.{is_stop}
 use Rattle.json_walk.specs.WalkLaws.{listed_whole}
 use Rattle.synthetic_source.specs.Faults.{stops_of}
@@ -24,15 +24,18 @@ walk_items-loop-item-preserved t c = record {
 pub walk_members-loop-name-preserved : goal.walk_members-loop-name-preserved
 walk_members-loop-name-preserved t c =
     let goes = c.in_ok-enter.ensures.place ∙ ap (λ s. c.loop-name.place.items ++ 46 ∷ s) c.as_str.ensures.value in
+    let held =
+        c.in_ok-walk_value.ensures.held
+        ∙ ap (λ l. after c.args.strict c.args.fields.now (record { slots = map slot_leaves c.loop-name.walk.slots.items; least = seen_fault l }) (listed (stops_of c.args.fields.now) (here_of c.enter.new.place.items) (view c.in-Some.member.now))) c.enter.ensures.least in
     let outer = c.in_ok-walk_value.ensures.place ∙ (goes ∙ ap (λ b. b ++ 46 ∷ string_bytes c.in-Some.name.now) c.loop-name.invariant.place) in
     record {
       place = c.leave.ensures.place ∙ (ap (take (length c.as_slice-length.result.now)) outer ∙ (ap (λ xs. take (length xs) (c.args.place.now.items ++ 46 ∷ string_bytes c.in-Some.name.now)) c.as_slice-length.ensures.value ∙ take-append_seam c.args.place.now.items _));
       held =
           ap (λ l. after c.args.strict c.args.fields.now (record { slots = map slot_leaves c.walk_value.new.walk.slots.items; least = seen_fault l }) (listed_members (stops_of c.args.fields.now) (here_of c.args.place.now.items) (members_view c.next.new.self))) c.leave.ensures.least
           ∙ members_step c.args.strict c.args.fields.now (stops_of c.args.fields.now) c.args.place.now.items c.loop-name.place.items c.enter.new.place.items (string_bytes c.in-Some.name.now) (seen_walk c.loop-name.walk) (seen_walk c.walk_value.new.walk) _ (view c.in-Some.member.now) (members_view c.loop-name.name-iterator) (members_view c.next.new.self)
-          c.loop-name.invariant.place goes (ap members_view c.in-Some.ensures.steps) c.in_ok-walk_value.ensures.held c.loop-name.invariant.held;
+          c.loop-name.invariant.place goes (ap members_view c.in-Some.ensures.steps) held c.loop-name.invariant.held;
       long = c.in_ok-walk_value.ensures.long ∙ c.loop-name.invariant.long;
-      known = c.leave.ensures.known c.args.fields.now c.in_ok-walk_value.ensures.known;
+      known = c.leave.ensures.known c.args.strict c.args.fields.now c.in_ok-walk_value.ensures.known;
     }
 
 pub walk_value-returns-then-is_stop_at-clause-held : goal.walk_value-returns-then-is_stop_at-clause-held

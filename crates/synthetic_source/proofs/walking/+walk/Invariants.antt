@@ -15,7 +15,7 @@ invariant-walk_items-loop-item l =
       held : after l.strict l.fields (seen_walk l.walk) (listed_items (stops_of l.fields) here (items_view (drop l.item-index l.item-items)))
           ≡ after l.strict l.fields (seen_walk l.initial.walk) (listed_items (stops_of l.fields) here (items_view l.item-items));
       long : length l.walk.slots.items ≡ length l.initial.walk.slots.items;
-      known : IsKnown l.fields (path_at l.place.items) l.walk.strays;
+      known : IsKnown l.strict l.fields (path_at l.place.items) l.walk.strays;
     }
 
 abbrev pub invariant-walk_members-loop-name : goal.invariant-walk_members-loop-name
@@ -26,5 +26,5 @@ invariant-walk_members-loop-name l =
       held : after l.strict l.fields (seen_walk l.walk) (listed_members (stops_of l.fields) here (members_view l.name-iterator))
           ≡ after l.strict l.fields (seen_walk l.initial.walk) (listed_members (stops_of l.fields) here (members_view l.members.entries));
       long : length l.walk.slots.items ≡ length l.initial.walk.slots.items;
-      known : IsKnown l.fields (path_at l.place.items) l.walk.strays;
+      known : IsKnown l.strict l.fields (path_at l.place.items) l.walk.strays;
     }
