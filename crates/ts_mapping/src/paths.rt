@@ -47,8 +47,9 @@ fn is_reserved(name: &[u8]) -> bool
 
 /// Whether a field may have the path: it has at most 512 bytes, no part is empty, and the first isn't reserved.
 #[tactic(auto, unfolding(crate::specs::Paths::is_field_path))]
-pub fn is_field_path(path: &[u8]) -> bool
+pub fn is_field_path(path: &str) -> bool
     ensures { result ≡ spec.is_field_path path.now }
 {
+    let path = path.as_bytes();
     path.len() <= LONGEST_PATH && has_parts(path) && !is_reserved(first_part(path))
 }

@@ -1,6 +1,5 @@
 //! What a leaf of a document is at a field of each type.
-ghost use Rattle.std.specs.Prelude.{◌≡◌, ◌≢◌, ◌≤◌, length, IfOk, IfSome, option_map, IsUtf8};
-ghost use Rattle.std.specs.Fmt.{signed_decimal};
+ghost use Rattle.std.specs.Prelude.{◌≡◌, ◌≢◌, ◌≤◌, length, IfOk, IfSome, option_and_then, IsUtf8};
 ghost use Rattle.serde_json.specs.Find.{as_integer};
 ghost use Rattle.serde_json.specs.View.{number_view, view};
 ghost use Rattle.row_cells.specs.Fitting.{IsAggregate, IsValueOf};
@@ -45,7 +44,7 @@ fn flag_text(flag: bool) -> &'static str
 }
 
 fn number_text(alloc: Global, number: &Number) -> Result<Option<Text>, NoMemory>
-    ensures value { IfOk result (λ read. read ≡ option_map signed_decimal (as_integer (number_view number.now))) }
+    ensures value { IfOk result (λ read. read ≡ option_and_then spec.number_word (as_integer (number_view number.now))) }
     ensures fits { IfOk result (λ read. IfSome read (λ t. IsUtf8 t × (length t ≤ longest_word))) }
 {
     let mut buffer = Buffer::new();
@@ -117,6 +116,13 @@ pub fn read_scalar(alloc: Global, kind: FieldType, leaf: &Value) -> Result<Optio
     }
 }
 
+/// A member that is a whole number of signed 64 bits.
+fn whole_at(leaf: &Value, name: &str) -> Option<i64>
+    ensures { result ≡ spec.whole_at name.now (view leaf.now) }
+{
+    leaf.get(name).and_then(Value::as_i64)
+}
+
 /// The parts of an aggregate's leaf, or None where it has no reading: an object with exactly `max`, `min`, `sum` and
 /// `value_count`, each a JSON whole number of signed 64 bits, and a value count of at least 1.
 pub fn read_aggregate(leaf: &Value) -> Option<Parts>
@@ -126,10 +132,10 @@ pub fn read_aggregate(leaf: &Value) -> Option<Parts>
     if !has_names(leaf, &["max", "min", "sum", "value_count"]) {
         return None;
     }
-    let min = leaf.get("min").and_then(Value::as_i64)?;
-    let max = leaf.get("max").and_then(Value::as_i64)?;
-    let sum = leaf.get("sum").and_then(Value::as_i64)?;
-    let count = leaf.get("value_count").and_then(Value::as_i64)?;
+    let min = whole_at(leaf, "min")?;
+    let max = whole_at(leaf, "max")?;
+    let sum = whole_at(leaf, "sum")?;
+    let count = whole_at(leaf, "value_count")?;
     if count < 1 {
         return None;
     }
