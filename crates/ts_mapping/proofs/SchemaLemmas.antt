@@ -19,7 +19,7 @@ use Rattle.ts_mapping.specs.Looks.{early_looks, late_looks}
 use Rattle.ts_mapping.specs.Fields.{added_time, dimension_paths, fields_of, has_time, is_dimension_role, is_listed, paths_of, routing_from, with_fields}
 use Rattle.ts_mapping.specs.Limits.{most_fields}
 use Rattle.ts_mapping.specs.Least.{all_faults, fault_unless, least}
-use Rattle.ts_mapping.specs.Paths.{is_among, is_below, is_field_path, timestamp}
+use Rattle.ts_mapping.specs.Paths.{has_path_form, is_among, is_below, is_field_path, timestamp}
 use Rattle.ts_mapping.specs.Properties.{Property, properties_of}
 use Rattle.ts_mapping.specs.Roles.{is_date, may_have}
 use Rattle.ts_mapping.specs.Schemas.{AreApart, AreTemplateFields, IsTemplateField, IsTemplateSchema, time_field}
@@ -29,7 +29,7 @@ use Rattle.ts_mapping.specs.Shapes.{body_faults, property_faults, shape_faults, 
 use Rattle.ts_mapping.specs.declared.kinds.MapKind.TheVariants.{BadShards, BadDynamic, UnknownType, TooManyFields, PathClash, BadTimestamp, BadRole, NoDimension, BadRouting}
 use Rattle.ts_mapping.proofs.Nothing.{first_look, first_nothing, holds, later_looks, look_nothing, no_paths, second_nothing}
 use Rattle.ts_mapping.proofs.Placing.{AllBy, AllOf, field_paths, of_all, with_all, with_ascends, with_gets, with_keeps, with_length}
-use Rattle.ts_mapping.specs.PathLaws.{exact, first_true, in_any, itself, or_second, second_true, text_path}
+use Rattle.ts_mapping.specs.PathLaws.{exact, first_true, in_any, itself, of_text, or_second, second_true, text_path}
 use Rattle.ts_mapping.proofs.Sound.{AreSound, all_fields, all_sent, all_template, sound_leaves}
 
 -- ---- the field of the time
@@ -39,8 +39,8 @@ unfolding encode
 time_text = (timestamp, (refl, refl))
 
 time_path : is_field_path timestamp ≡ true
-unfolding is_field_path
-time_path = ap (λ b. b && true) (is_utf8-from_IsUtf8 timestamp time_text)
+unfolding has_path_form
+time_path = sym (of_text timestamp time_text)
 
 time_is_template : IsTemplateField time_field
 time_is_template = record { path = time_path; role = refl; time = ((λ _. refl), (λ _. refl)) }

@@ -134,7 +134,7 @@ to_paths (f ∷ fs) all = (path_is f.path all.0.path, to_paths fs all.1)
 
 -- ---- no field below another
 
-in_paths : (g : Field) (fs : List Field) → IsIn g fs → is_among g.path (field_paths fs) ≡ true
+pub in_paths : (g : Field) (fs : List Field) → IsIn g fs → is_among g.path (field_paths fs) ≡ true
 in_paths g [] is = absurd is
 in_paths g (f ∷ fs) is =
     elim is [
@@ -142,12 +142,12 @@ in_paths g (f ∷ fs) is =
       | inr later ↦ or_second (bytes_eq g.path f.path) (is_among g.path (field_paths fs)) (in_paths g fs later)
     ]
 
-record Has (q : List ℕ) (fs : List Field) : Type 0 where
-  field : Field
-  is_in : IsIn field fs
-  path : q ≡ field.path
+pub record Has (q : List ℕ) (fs : List Field) : Type 0 where
+  pub field : Field
+  pub is_in : IsIn field fs
+  pub path : q ≡ field.path
 
-of_paths : (q : List ℕ) (fs : List Field) → is_among q (field_paths fs) ≡ true → Has q fs
+pub of_paths : (q : List ℕ) (fs : List Field) → is_among q (field_paths fs) ≡ true → Has q fs
 of_paths q [] is = cc
 of_paths q (f ∷ fs) is = go (bytes_eq q f.path) refl is (of_paths q fs)
   where

@@ -62,20 +62,20 @@ both_within : (lo hi v : ℤ) → (int_le lo v && int_le v hi) ≡ true → IsWi
 both_within lo hi v is = record { above = true_le lo v (first_true (int_le lo v) (int_le v hi) is); below = true_le v hi (second_true (int_le lo v) (int_le v hi) is) }
 
 fits_64 : (v : ℤ) → IsWithin (negsuc 9223372036854775807) (pos 9223372036854775807) v → FitsSigned w64 v
-fits_64 (pos n) is = record { sfits = omega (arith, ints, is.above, is.below) }
-fits_64 (negsuc n) is = record { sfits = omega (arith, ints, is.above, is.below) }
+fits_64 (pos n) is = let small : n < 2 ^ 63 = omega (arith, ints, is.above, is.below) in record { sfits = small }
+fits_64 (negsuc n) is = let small : n < 2 ^ 63 = omega (arith, ints, is.above, is.below) in record { sfits = small }
 
 fits_32 : (v : ℤ) → IsWithin (negsuc 2147483647) (pos 2147483647) v → FitsSigned w32 v
-fits_32 (pos n) is = record { sfits = omega (arith, ints, is.above, is.below) }
-fits_32 (negsuc n) is = record { sfits = omega (arith, ints, is.above, is.below) }
+fits_32 (pos n) is = let small : n < 2 ^ 31 = omega (arith, ints, is.above, is.below) in record { sfits = small }
+fits_32 (negsuc n) is = let small : n < 2 ^ 31 = omega (arith, ints, is.above, is.below) in record { sfits = small }
 
 fits_16 : (v : ℤ) → IsWithin (negsuc 32767) (pos 32767) v → FitsSigned w16 v
-fits_16 (pos n) is = record { sfits = omega (arith, ints, is.above, is.below) }
-fits_16 (negsuc n) is = record { sfits = omega (arith, ints, is.above, is.below) }
+fits_16 (pos n) is = let small : n < 2 ^ 15 = omega (arith, ints, is.above, is.below) in record { sfits = small }
+fits_16 (negsuc n) is = let small : n < 2 ^ 15 = omega (arith, ints, is.above, is.below) in record { sfits = small }
 
 fits_8 : (v : ℤ) → IsWithin (negsuc 127) (pos 127) v → FitsSigned w8 v
-fits_8 (pos n) is = record { sfits = omega (arith, ints, is.above, is.below) }
-fits_8 (negsuc n) is = record { sfits = omega (arith, ints, is.above, is.below) }
+fits_8 (pos n) is = let small : n < 2 ^ 7 = omega (arith, ints, is.above, is.below) in record { sfits = small }
+fits_8 (negsuc n) is = let small : n < 2 ^ 7 = omega (arith, ints, is.above, is.below) in record { sfits = small }
 
 number_is : (kind : FieldType) (v : ℤ) → is_number_of kind v ≡ true → IsValueOf kind (Whole v)
 number_is Long v is = fits_64 v (both_within _ _ v is)
@@ -162,6 +162,17 @@ unfolding encode
 flag_fits true = ((codes "true", (refl, refl)), omega arith)
 flag_fits false = ((codes "false", (refl, refl)), omega arith)
 
+pub word_taken : (s : List ℕ) → IsUtf8 s → length s ≤ longest_word → Some s ≡ text_word s
+word_taken s text short = sym (own_word s (text, short))
+
+pub word_refused : (s : List ℕ) → longest_word < length s → None ≡ text_word s
+word_refused s long = go (is_utf8 s) (nat_le (length s) longest_word) refl
+  where
+    go : (a b : Bool) → nat_le (length s) longest_word ≡ b → None ≡ cond (a && b) (Some s) None
+    go false b is = refl
+    go true false is = refl
+    go true true is = let short = leb-true (length s) longest_word is in absurd (omega (arith, short, long))
+
 text_fits : (s t : List ℕ) → text_word s ≡ Some t → IsWord t
 text_fits s t is =
     let through = let_through (is_utf8 s && nat_le (length s) longest_word) s t is in
@@ -172,14 +183,23 @@ natural_fits n small = (IsUtf8-from_ascii (decimal n) (IsAscii-decimal n small),
 
 decimal_fits : (v : ℤ) → has_64_bits v ≡ true → IsWord (signed_decimal v)
 decimal_fits (pos n) is =
-    let within = both_within (negsuc 9223372036854775807) (pos 18446744073709551615) (pos n) is in
-    natural_fits n (omega (arith, ints, within.below))
+    let known = both_within (negsuc 9223372036854775807) (pos 18446744073709551615) (pos n) is in
+    natural_fits n (omega (arith, ints, known.below))
 decimal_fits (negsuc n) is =
-    let within = both_within (negsuc 9223372036854775807) (pos 18446744073709551615) (negsuc n) is in
-    let small : mag (negsuc n) < 2 ^ 63 = omega (arith, ints, within.above) in (
+    let known = both_within (negsuc 9223372036854775807) (pos 18446744073709551615) (negsuc n) is in
+    let small : n < 2 ^ 63 = omega (arith, ints, known.above) in (
       IsUtf8-from_ascii (signed_decimal (negsuc n)) (IsAscii-signed (negsuc n) small),
       omega (arith, length_signed_le 19 (negsuc n) (omega (arith, small)) small),
     )
+
+-- numbers of 64 bits have keywords
+pub natural_told : (n : ℕ) → n < 2 ^ 64 → Some (decimal n) ≡ number_word (pos n)
+natural_told n small =
+    sym (ap (λ b. cond b (Some (decimal n)) None) (within (negsuc 9223372036854775807) (pos 18446744073709551615) (pos n) (omega (arith, ints)) (omega (arith, ints, small))))
+
+pub signed_told : (v : ℤ) → FitsSigned w64 v → Some (signed_decimal v) ≡ number_word v
+signed_told v is =
+    sym (ap (λ b. cond b (Some (signed_decimal v)) None) (within (negsuc 9223372036854775807) (pos 18446744073709551615) v (omega (arith, ints, is)) (omega (arith, ints, is))))
 
 number_word_fits : (v : ℤ) (t : List ℕ) → number_word v ≡ Some t → IsWord t
 number_word_fits v t is = let through = let_through (has_64_bits v) (signed_decimal v) t is in subst IsWord through.same (decimal_fits v through.test)
