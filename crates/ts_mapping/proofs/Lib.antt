@@ -1,4 +1,5 @@
 pub mod Agrees
+pub mod Bodies
 pub mod Deep
 pub mod Digits
 pub mod Known
