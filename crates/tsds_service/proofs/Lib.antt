@@ -10,3 +10,4 @@ mod MachineLemmas
 mod SoundLemmas
 mod UnitLemmas
 mod TurnLemmas
+mod FirstLemmas
