@@ -1,7 +1,7 @@
 -- The definitions on a small machine, worked out: a stream of two members, and two rows in the first of them.
 use Rattle.std.specs.Char.{encode_utf8}
 use Rattle.std.specs.Str.{is_utf8, chars}
-use Rattle.std.specs.Prelude.{Err, map}
+use Rattle.std.specs.Prelude.{ℤ, Err, map}
 use Rattle.std.proofs.Common.{◌≡◌, Bool, ℕ, pos, List, [], ◌∷◌, Option, Some, None, true, false, refl, arith, codes}
 use Rattle.std.proofs.lemmas.Slice.Eq.{bytes_eq-Decides}
 use Rattle.reply_json.specs.Trees as tree
@@ -45,6 +45,7 @@ use Rattle.tsds_service.specs.Messages.{moment_by}
 use Rattle.tsds_service.specs.Questions.{Asking, no_document, document_reply}
 use Rattle.tsds_service.specs.Replies.{ack, interval_word, ran_reply, rolled_reply, tasks_reply}
 use Rattle.tsds_service.specs.Step.{told, downsample_by, get_document, modify, run_lifecycle, step}
+use Rattle.tsds_service.specs.Turns.{asks, works, Standing, replies, behind, last_written}
 use Rattle.tsds_service.specs.Bulk.{Outcome, taken, barred, after_outcome, by_document, by_key, by_place, item_outcome, item_tree, bulk_reply}
 use Rattle.tsds_service.specs.Causes as cause
 use Rattle.tsds_service.specs.Causes.{Cause, ItemCause, refused, said, item_said, only_create, no_stream, no_object, bad_time, outside, blocked, bad_document, no_routing, long_key, conflict, full}
@@ -269,6 +270,28 @@ moment_earlier = refl
 
 pub moment_unread : moment_by (pos 5) None ≡ record { reply = Some (refused cause.bad_moment); now = pos 5 }
 moment_unread = refl
+
+-- ---- turns
+
+abbrev standing : Machine → Standing
+standing m = record { machine = m; present = pos 15000 }
+
+-- two units end a fold of two series
+pub units_swap : (asking : Asking) → names (behind asking plain_way (standing (folding 0)) (works ∷ works ∷ [])).machine.catalog ≡ codes "b" ∷ codes "f" ∷ []
+unfolding unit_of
+units_swap asking = refl
+
+-- what a flush writes is the machine right after its step
+abbrev recorded : ℤ → Machine
+recorded now = record (folding 0) { kept = true; now = now }
+
+pub flush_written : (asking : Asking) → last_written asking plain_way None (standing (recorded (pos 15000))) (asks flush (pos 16000) ∷ works ∷ []) ≡ Some (recorded (pos 16000))
+unfolding step unit_of
+flush_written asking = refl
+
+pub flush_told : (asking : Asking) → replies asking plain_way (standing (recorded (pos 15000))) (works ∷ asks flush (pos 16000) ∷ []) ≡ ack ∷ []
+unfolding step unit_of
+flush_told asking = refl
 
 -- ---- replies: their members, in order
 
