@@ -49,7 +49,8 @@ found_is_held c n i sound found = each_found facts_name (IsHeld (facts_of c)) n 
 pub found_agree : FoundAgree
 found_agree c m n i j sound first second same =
     let fs = (facts_of c).indices in
-    let row = each_found facts_name (λ k. Each (Agrees (form_of k)) (map form_of fs)) m fs i.facts (facts_there c m i first) (each_of_map form_of (λ a. Each (Agrees a) (map form_of fs)) fs sound.facts.indices_agree) in
+    let row = each_found facts_name (λ k. Each (Agrees (form_of k)) (map form_of fs)) m fs i.facts (facts_there c m i first)
+        (each_of_map form_of (λ a. Each (Agrees a) (map form_of fs)) fs sound.facts.indices_agree) in
     each_found facts_name (λ k. Agrees (form_of i.facts) (form_of k)) n fs j.facts (facts_there c n j second) (each_of_map form_of (Agrees (form_of i.facts)) fs row) same
 
 -- ---- units
@@ -137,7 +138,8 @@ units_end c task i j key sound is found = by_last (next_done task.done series ==
     new : PlainIndex
     new = folded_index plain_way task.target task.rises task.by i
 
-    swaps : (next_done task.done series == series) ≡ true → index_named task.target (inserted index_name new (without index_name i.facts.name c.indices)) ≡ Some j → (see_index j).rows ≡ kept_rows task i ++ series_rows task i key
+    swaps : (next_done task.done series == series) ≡ true → index_named task.target (inserted index_name new (without index_name i.facts.name c.indices)) ≡ Some j →
+        (see_index j).rows ≡ kept_rows task i ++ series_rows task i key
     swaps last there =
         let less = below (series_of i.rows) task.done key is.next in
         let fewer = times-filter index_name (λ k. not (bytes_eq k.facts.name i.facts.name)) task.target c.indices in
@@ -153,7 +155,8 @@ units_end c task i j key sound is found = by_last (next_done task.done series ==
     stays there = let some = some_named index_name task.target c.indices j there in omega (arith, fresh, some)
 
     by_last : (b : Bool) → (next_done task.done series == series) ≡ b →
-        index_named task.target (if b then swapped plain_way (record c { tasks = is.rest }) task i else record c { tasks = record task { done = next_done task.done series } ∷ is.rest }).indices ≡ Some j →
+        index_named task.target (if b then swapped plain_way
+            (record c { tasks = is.rest }) task i else record c { tasks = record task { done = next_done task.done series } ∷ is.rest }).indices ≡ Some j →
         (see_index j).rows ≡ kept_rows task i ++ series_rows task i key
     by_last true last there = swaps last there
     by_last false not_last there = absurd (stays there)
@@ -183,18 +186,22 @@ rollovers_join c name now s w n none found write there = by_stream (stream_named
         let is_new : new ≡ n = some_is (sym (named_new index_name new c.indices fresh) ∙ there) in
         ap (λ (k : PlainIndex). k.facts.start) (sym is_new) ∙ ap (λ (k : PlainIndex). k.facts.end) (some_is is)
 
-    by_template : (o : Option Template) → index_named (next_name s now) (with_found o c (λ t. with_found (index_named (write_name s) c.indices) c (next s t))).indices ≡ Some n → n.facts.start ≡ w.facts.end
+    by_template : (o : Option Template) → index_named (next_name s now) (with_found o c (λ t. with_found (index_named (write_name s) c.indices) c (next s t))).indices ≡ Some n →
+        n.facts.start ≡ w.facts.end
     by_template None there = stays there
     by_template (Some t) there = by_index t (index_named (write_name s) c.indices) write there
 
-    by_own : (z : PlainStream) → z ≡ s → index_named (next_name s now) (with_found (template_named z.facts.template c.templates) c (λ t. with_found (index_named (write_name z) c.indices) c (next z t))).indices ≡ Some n →
+    by_own : (z : PlainStream) → z ≡ s →
+        index_named (next_name s now) (with_found (template_named z.facts.template c.templates) c (λ t. with_found (index_named (write_name z) c.indices) c (next z t))).indices ≡ Some n →
         n.facts.start ≡ w.facts.end
     by_own z same there =
         by_template (template_named s.facts.template c.templates)
-        (subst (λ (y : PlainStream). index_named (next_name s now) (with_found (template_named y.facts.template c.templates) c (λ t. with_found (index_named (write_name y) c.indices) c (next y t))).indices ≡ Some n) same there)
+        (subst (λ (y : PlainStream). index_named (next_name s now)
+            (with_found (template_named y.facts.template c.templates) c (λ t. with_found (index_named (write_name y) c.indices) c (next y t))).indices ≡ Some n) same there)
 
     by_stream : (o : Option PlainStream) → o ≡ Some s →
-        index_named (next_name s now) (with_found o c (λ z. with_found (template_named z.facts.template c.templates) c (λ t. with_found (index_named (write_name z) c.indices) c (next z t)))).indices ≡ Some n →
+        index_named (next_name s now) (with_found o c
+            (λ z. with_found (template_named z.facts.template c.templates) c (λ t. with_found (index_named (write_name z) c.indices) c (next z t)))).indices ≡ Some n →
         n.facts.start ≡ w.facts.end
     by_stream None is there = absurd (none_not_some is)
     by_stream (Some z) is there = by_own z (some_is is) there
@@ -206,7 +213,8 @@ moved_fewer : (n : List ℕ) (f : PlainFacts) (m : Move) → times n (map task_i
 moved_fewer n f (Remove stream index) = times-filter task_index (λ t. not (bytes_eq t.index index)) n f.tasks
 moved_fewer n f (Add stream index) = by_found (facts_named index f.indices)
   where
-    by_found : (o : Option HeldIndex) → times n (map task_index (with_found o f (λ i. record f { streams = updated stream_name stream (with_member f.indices i) f.streams })).tasks) ≤ times n (map task_index f.tasks)
+    by_found : (o : Option HeldIndex) →
+        times n (map task_index (with_found o f (λ i. record f { streams = updated stream_name stream (with_member f.indices i) f.streams })).tasks) ≤ times n (map task_index f.tasks)
     by_found None = omega arith
     by_found (Some i) = omega arith
 

@@ -133,7 +133,8 @@ behind_bytes now g small =
     joined (codes "-") (day_text now ++ codes "-" ++ six_digits g) refl
     (joined (day_text now) (codes "-" ++ six_digits g) (day_bytes now) (joined (codes "-") (six_digits g) refl (six g small)))
 
-backing_rest : (s : List ℕ) (now : ℤ) (g : ℕ) → is_stream_name s ≡ true → g ≤ 999_999 → AreBytes (s ++ behind_stream now g) × (length (s ++ behind_stream now g) ≤ 118) × (0 < length (s ++ behind_stream now g))
+backing_rest : (s : List ℕ) (now : ℤ) (g : ℕ) → is_stream_name s ≡ true → g ≤ 999_999 →
+    AreBytes (s ++ behind_stream now g) × (length (s ++ behind_stream now g) ≤ 118) × (0 < length (s ++ behind_stream now g))
 backing_rest s now g is small =
     let text = stream_text s is in
     let short = text.short in

@@ -50,7 +50,8 @@ seen_named c is = record { templates = is.templates; streams = is.streams; indic
 
 pub template_named_well : (c : PlainCatalog) (t : Template) → IsTrue (is_stream_name t.name) → IsWellNamed c → IsWellNamed (template_put c t)
 template_named_well c t one is = record {
-  templates = each_inserted template_name IsTemplateNamed t (without template_name t.name c.templates) one (Each-filter IsTemplateNamed (λ u. not (bytes_eq (template_name u) t.name)) c.templates is.templates);
+  templates = each_inserted template_name IsTemplateNamed t (without template_name t.name c.templates) one
+      (Each-filter IsTemplateNamed (λ u. not (bytes_eq (template_name u) t.name)) c.templates is.templates);
   streams = is.streams;
   indices = is.indices;
   tasks = is.tasks;
@@ -77,7 +78,8 @@ created_named c name now one is_now is = by_template (template_for name c.templa
     by_template (Some t) = record {
       templates = is.templates;
       streams = each_inserted stream_name IsStreamNamed (new_stream name t now) c.streams one is.streams;
-      indices = each_inserted index_name IsIndexNamed (new_index (first_name name now) t (first_start now t) (end_after now t.look_ahead)) c.indices (backing_index name now 1 one is_now (omega arith) (omega arith)) is.indices;
+      indices = each_inserted index_name IsIndexNamed (new_index (first_name name now) t (first_start now t) (end_after now t.look_ahead)) c.indices
+          (backing_index name now 1 one is_now (omega arith) (omega arith)) is.indices;
       tasks = is.tasks;
     }
 
@@ -136,7 +138,8 @@ rolled_named c name now is_now none is = by_stream (stream_named name c.streams)
 -- ---- indices
 
 -- a change of an index that keeps its name and its origin
-index_changed : (c : PlainCatalog) (n : List ℕ) (g : PlainIndex → PlainIndex) → ((i : PlainIndex) → IsIndexNamed i → IsIndexNamed (g i)) → IsWellNamed c → IsWellNamed (record c { indices = updated index_name n g c.indices })
+index_changed : (c : PlainCatalog) (n : List ℕ) (g : PlainIndex → PlainIndex) → ((i : PlainIndex) → IsIndexNamed i → IsIndexNamed (g i)) → IsWellNamed c →
+    IsWellNamed (record c { indices = updated index_name n g c.indices })
 index_changed c n g keeps is = record {
   templates = is.templates;
   streams = is.streams;

@@ -48,7 +48,8 @@ unless-sound : (o : Option Cause) (m : Machine) (answer : Stepped) → IsSound m
 unless-sound None m answer sound keeps = keeps refl
 unless-sound (Some c) m answer sound keeps = sound
 
-found-sound : {A : Type 0} (o : Option A) (missed : Stepped) (answer : A → Stepped) → IsSound missed.machine → ((a : A) → o ≡ Some a → IsSound (answer a).machine) → IsSound (with_found o missed answer).machine
+found-sound : {A : Type 0} (o : Option A) (missed : Stepped) (answer : A → Stepped) → IsSound missed.machine → ((a : A) → o ≡ Some a → IsSound (answer a).machine) →
+    IsSound (with_found o missed answer).machine
 found-sound None missed answer sound keeps = sound
 found-sound (Some a) missed answer sound keeps = keeps a refl
 
@@ -121,11 +122,13 @@ module _ (laws : SoundLaws) (m : Machine) (sound : IsSound m) where
       by_change (about_index (write_index (facts_of m.catalog) name)) (rollover_refusal (facts_of m.catalog) name m.now) (rolled_reply (rolled_names (facts_of m.catalog) name m.now))
       (rolled_over m.catalog name m.now) (laws.rollovers m.catalog name m.now sound.now sound.catalog) (λ none. laws.names.rollovers m.catalog name m.now sound.now none sound.names)
   step_of-sound asking (asked.block n) is_asked =
-      by_change (about_index n) (block_refusal (facts_of m.catalog) n) (blocked_reply n) (blocked_in m.catalog n) (λ none. laws.blocks m.catalog n sound.catalog) (λ none. laws.names.blocks m.catalog n sound.names)
+      by_change (about_index n) (block_refusal (facts_of m.catalog) n) (blocked_reply n) (blocked_in m.catalog n) (λ none. laws.blocks m.catalog n sound.catalog)
+          (λ none. laws.names.blocks m.catalog n sound.names)
   step_of-sound asking (asked.downsample source target body) is_asked = downsample-sound source target (fixed_interval_of body) is_asked.1.0
   step_of-sound asking (asked.modify body) is_asked = modify-sound body
   step_of-sound asking (asked.delete_index n) is_asked =
-      by_change (about_index n) (delete_refusal (facts_of m.catalog) n) ack (index_deleted m.catalog n) (laws.deletions m.catalog n sound.catalog) (λ none. laws.names.deletions m.catalog n sound.names)
+      by_change (about_index n) (delete_refusal (facts_of m.catalog) n) ack (index_deleted m.catalog n) (laws.deletions m.catalog n sound.catalog)
+          (λ none. laws.names.deletions m.catalog n sound.names)
   step_of-sound asking (asked.put_lifecycle name body) is_asked = put_lifecycle-sound name body
   step_of-sound asking asked.run_lifecycle is_asked = left (lifecycle_run m.catalog m.now).catalog (laws.runs m.catalog m.now sound.catalog) (laws.names.runs m.catalog m.now sound.names)
   step_of-sound asking asked.tasks is_asked = sound
@@ -136,7 +139,8 @@ module _ (laws : SoundLaws) (m : Machine) (sound : IsSound m) where
 
 pub steps_keep_sound : SoundLaws → StepsKeepSound
 unfolding step
-steps_keep_sound laws asking m message now sound is_asked instant = step_of-sound laws (record m { now = now }) (record { catalog = sound.catalog; now = instant; names = sound.names }) asking message is_asked
+steps_keep_sound laws asking m message now sound is_asked instant = step_of-sound laws (record m { now = now })
+    (record { catalog = sound.catalog; now = instant; names = sound.names }) asking message is_asked
 
 pub steps_keep_seen : SoundLaws → SeenAgain → StepsStand → StepsKeepSeen
 steps_keep_seen laws again stand asking m message now seen is_asked instant =

@@ -102,7 +102,8 @@ module _ (held_there : FoundIsHeld) (fit : CellsOfDocumentsFit) (c : PlainCatalo
           (subst (λ (x : Row). MayPut i.facts i.rows x) (taken_row is) (record { takes = takes; within = within; free = place; room = room; row_of = row_of }))
 
   key_takes : (m : List ℕ) (i : PlainIndex) (time : ℤ) (cells : List Cell) (key : Result (List ℕ) KeyError) → index_named m c.indices ≡ Some i → i.facts.blocked ≡ false → has_time i.facts time ≡ true
-      → CellsFit false i.facts.mapping.schema.rises 1 i.facts.mapping.schema.fields cells × Each IsShortList cells → keyed i.facts.mapping.schema cells ≡ key → by_key m i time cells key ≡ taken n row → TakesRow c n row
+      → CellsFit false i.facts.mapping.schema.rises 1 i.facts.mapping.schema.fields cells × Each IsShortList cells
+      → keyed i.facts.mapping.schema cells ≡ key → by_key m i time cells key ≡ taken n row → TakesRow c n row
   key_takes m i time cells (Ok key) found takes within fits made is =
       let schema = i.facts.mapping.schema in
       let held = held_there c m i sound found in
@@ -126,14 +127,16 @@ module _ (held_there : FoundIsHeld) (fit : CellsOfDocumentsFit) (c : PlainCatalo
   key_takes m i time cells (Err (KeyTooLong bytes)) found takes within fits made is = absurd (barred_not is)
   key_takes m i time cells (Err NoMemory) found takes within fits made is = absurd (barred_not is)
 
-  cells_take : (m : List ℕ) (i : PlainIndex) (time : ℤ) (d : Data) (cells : Result (List Cell) (DocKind × List ℕ)) → leaf_count d ≤ longest_list → index_named m c.indices ≡ Some i → i.facts.blocked ≡ false
+  cells_take : (m : List ℕ) (i : PlainIndex) (time : ℤ) (d : Data) (cells : Result (List Cell) (DocKind × List ℕ)) → leaf_count d ≤ longest_list → index_named m c.indices ≡ Some i →
+      i.facts.blocked ≡ false
       → has_time i.facts time ≡ true → document_cells i.facts.mapping.schema i.facts.mapping.strict d ≡ cells → by_cells m i time cells ≡ taken n row → TakesRow c n row
   cells_take m i time d (Ok cells) few found takes within made is =
       let held = held_there c m i sound found in
       key_takes m i time cells (keyed i.facts.mapping.schema cells) found takes within (fit i.facts.mapping.schema i.facts.mapping.strict d cells held.mapping.schema few made) refl is
   cells_take m i time d (Err fault) few found takes within made is = absurd (barred_not is)
 
-  pick_takes : (s : PlainStream) (time : ℤ) (d : Data) (pick : Result (List ℕ) PickError) → leaf_count d ≤ longest_list → picked_by (facts_of c) s time ≡ pick → by_pick c s time d pick ≡ taken n row → TakesRow c n row
+  pick_takes : (s : PlainStream) (time : ℤ) (d : Data) (pick : Result (List ℕ) PickError) → leaf_count d ≤ longest_list → picked_by (facts_of c) s time ≡ pick →
+      by_pick c s time d pick ≡ taken n row → TakesRow c n row
   pick_takes s time d (Err NoWindow) few picked is = absurd (barred_not is)
   pick_takes s time d (Err Blocked) few picked is = absurd (barred_not is)
   pick_takes s time d (Ok m) few picked is = by_found (index_named m c.indices) refl is

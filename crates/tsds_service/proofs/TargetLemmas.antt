@@ -36,7 +36,8 @@ member_is c template m i there is = record {
   of = subst (IsMemberOf template) (facts-index m c.indices ∙ ap (option_map (λ (j : PlainIndex). j.facts)) there) is;
 }
 
-members_are : (c : PlainCatalog) (template : List ℕ) (ms : List (List ℕ)) → Each (λ m. IsMemberOf template (facts_named m (facts_of c).indices)) ms → Each (IsOf c template) (filter_map (λ n. index_named n c.indices) ms)
+members_are : (c : PlainCatalog) (template : List ℕ) (ms : List (List ℕ)) → Each (λ m. IsMemberOf template (facts_named m (facts_of c).indices)) ms →
+    Each (IsOf c template) (filter_map (λ n. index_named n c.indices) ms)
 members_are c template [] are = tt
 members_are c template (m ∷ ms) are = by_found (index_named m c.indices) refl (members_are c template ms are.1)
   where

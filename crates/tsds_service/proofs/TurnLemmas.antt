@@ -81,7 +81,8 @@ module _ (again : SeenAgain) (steps : StepsRefine) (units : UnitsRefine) (steps_
   told-see : (m : Machine) (now : ℤ) (method target body : List ℕ) (r : Result Message RequestError) → IsSound m → IsInstant now → length body ≤ body_limit → request_of method target body ≡ r →
       told_by asking seen_way (see m) now r ≡ see_told (told_by asking plain_way m now r)
   told-see m now method target body (Ok message) sound is_now short read =
-      ap (told_of seen_way) (steps asking m message now sound) ∙ told_of-see (step asking plain_way m message now) (steps_keep asking m message now sound (asked_so method target body message read short) is_now)
+      ap (told_of seen_way) (steps asking m message now sound) ∙ told_of-see (step asking plain_way m message now)
+          (steps_keep asking m message now sound (asked_so method target body message read short) is_now)
   told-see m now method target body (Err e) sound is_now short read =
       ap (λ (n : Machine). record { reply = refused (request_cause e); stepped = see m; after = n; wrote = false }) (units m sound)
 
@@ -90,7 +91,8 @@ module _ (again : SeenAgain) (steps : StepsRefine) (units : UnitsRefine) (steps_
   unfolding message_told
   message-see m now method target body sound is_now short = told-see m now method target body (request_of method target body) sound is_now short refl
 
-  told-sound : (m : Machine) (now : ℤ) (method target body : List ℕ) (r : Result Message RequestError) → IsSound m → IsInstant now → length body ≤ body_limit → request_of method target body ≡ r → IsSound (told_by asking plain_way m now r).after
+  told-sound : (m : Machine) (now : ℤ) (method target body : List ℕ) (r : Result Message RequestError) → IsSound m → IsInstant now → length body ≤ body_limit →
+      request_of method target body ≡ r → IsSound (told_by asking plain_way m now r).after
   told-sound m now method target body (Ok message) sound is_now short read =
       units_keep (step asking plain_way m message now).machine (steps_keep asking m message now sound (asked_so method target body message read short) is_now)
   told-sound m now method target body (Err e) sound is_now short read = units_keep m sound
