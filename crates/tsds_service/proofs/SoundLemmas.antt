@@ -123,12 +123,12 @@ module _ (laws : SoundLaws) (m : Machine) (sound : IsSound m) where
       (rolled_over m.catalog name m.now) (laws.rollovers m.catalog name m.now sound.now sound.catalog) (λ none. laws.names.rollovers m.catalog name m.now sound.now none sound.names)
   step_of-sound asking (asked.block n) is_asked =
       by_change (about_index n) (block_refusal (facts_of m.catalog) n) (blocked_reply n) (blocked_in m.catalog n) (λ none. laws.blocks m.catalog n sound.catalog)
-          (λ none. laws.names.blocks m.catalog n sound.names)
+      (λ none. laws.names.blocks m.catalog n sound.names)
   step_of-sound asking (asked.downsample source target body) is_asked = downsample-sound source target (fixed_interval_of body) is_asked.1.0
   step_of-sound asking (asked.modify body) is_asked = modify-sound body
   step_of-sound asking (asked.delete_index n) is_asked =
       by_change (about_index n) (delete_refusal (facts_of m.catalog) n) ack (index_deleted m.catalog n) (laws.deletions m.catalog n sound.catalog)
-          (λ none. laws.names.deletions m.catalog n sound.names)
+      (λ none. laws.names.deletions m.catalog n sound.names)
   step_of-sound asking (asked.put_lifecycle name body) is_asked = put_lifecycle-sound name body
   step_of-sound asking asked.run_lifecycle is_asked = left (lifecycle_run m.catalog m.now).catalog (laws.runs m.catalog m.now sound.catalog) (laws.names.runs m.catalog m.now sound.names)
   step_of-sound asking asked.tasks is_asked = sound

@@ -13,9 +13,9 @@ use Rattle.row_cells.specs.Each.{Each}
 use Rattle.stream_catalog.specs.Ways.{plain_way, seen_way}
 use Rattle.time_text.specs.Instant.{IsInstant, in_range, instant_of, written_of}
 use Rattle.tsds_service.specs.Causes.{refused, request_cause}
-use Rattle.tsds_service.specs.Laws.{SeenAgain, StepsRefine, UnitsRefine, StepsKeepSound, UnitsKeepSound, IsSoundStanding, IsSeenStanding, TurnAlike, TurnsRefine, TurnStands, TurnsStand}
+use Rattle.tsds_service.specs.Laws.{SeenAgain, StepsRefine, UnitsRefine, StepsKeepSound, UnitsKeepSound, IsSoundStanding, IsSeenStanding, MessagesRefine, MomentsAreInstants, TurnAlike, TurnsRefine, TurnStands, TurnsStand}
 use Rattle.tsds_service.specs.Machine.{Machine, see, IsSound}
-use Rattle.tsds_service.specs.Messages.{Told, told_of, told_by, message_told, moment_by, moment_told}
+use Rattle.tsds_service.specs.Messages.{Told, see_told, told_of, told_by, message_told, moment_by, moment_told}
 use Rattle.tsds_service.specs.Questions.{Asking}
 use Rattle.tsds_service.specs.Step.{Stepped, see_stepped, step}
 use Rattle.tsds_service.specs.Turns.{Turn, asks, sends, says, works, Standing, see_standing, Turned, see_turned, written_if, by_step, by_message, turned, with_reply, replies, behind, last_written, IsTurn}
@@ -46,7 +46,7 @@ instant_read text t is = by_written (written_of text) is
     by_written None is = absurd (none_not_some is)
     by_written (Some z) is = in_range_instant z t is
 
-moment_instant : (now : ℤ) (text : List ℕ) → IsInstant now → IsInstant (moment_told now text).now
+pub moment_instant : MomentsAreInstants
 moment_instant now text is_now = by_read (instant_of text) refl
   where
     by_test : (next : ℤ) (b : Bool) → IsInstant next → IsInstant (if b then record { reply = None; now = next } else moment_by now None).now
@@ -66,9 +66,6 @@ written-see false m = refl
 by_step-see : (now : ℤ) (s : Stepped) → by_step now (see_stepped s) ≡ see_turned (by_step now s)
 by_step-see now s = ap (λ w. record { reply = Some s.reply; written = w; after = record { machine = see s.machine; present = now } }) (written-see s.wrote s.machine)
 
-abbrev see_told : Told → Told
-see_told t = record t { stepped = see t.stepped; after = see t.after }
-
 by_message-see : (now : ℤ) (t : Told) → by_message now (record t { stepped = see t.stepped; after = see t.after }) ≡ see_turned (by_message now t)
 by_message-see now t = ap (λ w. record { reply = Some t.reply; written = w; after = record { machine = see t.after; present = now } }) (written-see t.wrote t.stepped)
 
@@ -82,7 +79,7 @@ module _ (again : SeenAgain) (steps : StepsRefine) (units : UnitsRefine) (steps_
       told_by asking seen_way (see m) now r ≡ see_told (told_by asking plain_way m now r)
   told-see m now method target body (Ok message) sound is_now short read =
       ap (told_of seen_way) (steps asking m message now sound) ∙ told_of-see (step asking plain_way m message now)
-          (steps_keep asking m message now sound (asked_so method target body message read short) is_now)
+      (steps_keep asking m message now sound (asked_so method target body message read short) is_now)
   told-see m now method target body (Err e) sound is_now short read =
       ap (λ (n : Machine). record { reply = refused (request_cause e); stepped = see m; after = n; wrote = false }) (units m sound)
 
@@ -100,6 +97,15 @@ module _ (again : SeenAgain) (steps : StepsRefine) (units : UnitsRefine) (steps_
   message-sound : (m : Machine) (now : ℤ) (method target body : List ℕ) → IsSound m → IsInstant now → length body ≤ body_limit → IsSound (message_told asking plain_way m now method target body).after
   unfolding message_told
   message-sound m now method target body sound is_now short = told-sound m now method target body (request_of method target body) sound is_now short refl
+
+  told-stepped : (m : Machine) (now : ℤ) (method target body : List ℕ) (r : Result Message RequestError) → IsSound m → IsInstant now → length body ≤ body_limit →
+      request_of method target body ≡ r → IsSound (told_by asking plain_way m now r).stepped
+  told-stepped m now method target body (Ok message) sound is_now short read = steps_keep asking m message now sound (asked_so method target body message read short) is_now
+  told-stepped m now method target body (Err e) sound is_now short read = sound
+
+  message-stepped : (m : Machine) (now : ℤ) (method target body : List ℕ) → IsSound m → IsInstant now → length body ≤ body_limit → IsSound (message_told asking plain_way m now method target body).stepped
+  unfolding message_told
+  message-stepped m now method target body sound is_now short = told-stepped m now method target body (request_of method target body) sound is_now short refl
 
   -- ---- a turn
 
@@ -153,3 +159,10 @@ turns_refine again steps units steps_keep units_keep asking s ts before sound ar
 
 pub turns_stand : SeenAgain → StepsRefine → UnitsRefine → StepsKeepSound → UnitsKeepSound → TurnsStand
 turns_stand again steps units steps_keep units_keep asking s ts seen are = turns-stand again steps units steps_keep units_keep asking s ts seen are
+
+pub messages_refine : SeenAgain → StepsRefine → UnitsRefine → StepsKeepSound → UnitsKeepSound → MessagesRefine
+messages_refine again steps units steps_keep units_keep asking m now method target body sound is_now short = record {
+  told = message-see again steps units steps_keep units_keep asking m now method target body sound is_now short;
+  stepped = message-stepped again steps units steps_keep units_keep asking m now method target body sound is_now short;
+  after = message-sound again steps units steps_keep units_keep asking m now method target body sound is_now short;
+}

@@ -15,6 +15,7 @@ use Rattle.stream_catalog.specs.WellNamed.{IsWellNamed}
 use Rattle.time_text.specs.Instant.{IsInstant}
 use Rattle.tsds_service.specs.Bulk.{outcomes_of, after_first}
 use Rattle.tsds_service.specs.Machine.{Machine, empty_machine, see, unit, units, IsSound, IsSeen}
+use Rattle.tsds_service.specs.Messages.{see_told, message_told, moment_told}
 use Rattle.tsds_service.specs.Questions.{Asking, samples_of, target_of}
 use Rattle.tsds_service.specs.Step.{see_stepped, step}
 use Rattle.tsds_service.specs.Turns.{Turn, Standing, see_standing, replies, behind, last_written, IsTurn}
@@ -90,6 +91,21 @@ StepsKeepSound = (asking : Asking) (m : Machine) (message : Message) (now : ℤ)
 
 abbrev pub StepsKeepSeen : Type 0
 StepsKeepSeen = (asking : Asking) (m : Machine) (message : Message) (now : ℤ) → IsSeen m → IsAsked message → IsInstant now → IsSeen (step asking seen_way m message now).machine
+
+-- ---- a message
+
+-- what is seen of a machine is told what the machine is told, and its unit; both are left sound
+pub record MessageAlike (asking : Asking) (m : Machine) (now : ℤ) (method target body : List ℕ) : Type 0 where
+  pub told : message_told asking seen_way (see m) now method target body ≡ see_told (message_told asking plain_way m now method target body)
+  pub stepped : IsSound (message_told asking plain_way m now method target body).stepped
+  pub after : IsSound (message_told asking plain_way m now method target body).after
+
+abbrev pub MessagesRefine : Type 0
+MessagesRefine = (asking : Asking) (m : Machine) (now : ℤ) (method target body : List ℕ) → IsSound m → IsInstant now → length body ≤ body_limit → MessageAlike asking m now method target body
+
+-- a moment line leaves an instant
+abbrev pub MomentsAreInstants : Type 0
+MomentsAreInstants = (now : ℤ) (text : List ℕ) → IsInstant now → IsInstant (moment_told now text).now
 
 -- ---- any list of requests, moment lines and units
 

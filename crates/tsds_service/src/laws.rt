@@ -1,7 +1,7 @@
 //! The laws that tie a plain machine to what is seen of it, for crates above.
 ghost use Rattle.tsds_service.specs.Laws.{SamplesStay, SeenAgain, StepsRefine, StepsStand, UnitsRefine, UnitsStand};
 ghost use Rattle.tsds_service.specs.Laws.{EmptyIsSeen, ManyUnitsKeepSeen, ManyUnitsKeepSound, ManyUnitsRefine, ManyUnitsStand, StepsKeepSeen, StepsKeepSound, UnitsKeepSeen, UnitsKeepSound};
-ghost use Rattle.tsds_service.specs.Laws.{FirstsRefine, TargetsAgree, TurnsRefine, TurnsStand};
+ghost use Rattle.tsds_service.specs.Laws.{FirstsRefine, MessagesRefine, MomentsAreInstants, TargetsAgree, TurnsRefine, TurnsStand};
 
 use stream_catalog::{
     changes_go_through, changes_keep_sound, indices_are_sound, names_keep, seen_again, tests_stay,
@@ -102,6 +102,17 @@ pub fn steps_keep()
     changes_keep_sound();
     machines_are_seen();
     steps_stand();
+}
+
+/// A message and its unit are told alike, and leave a sound machine sound; a moment line leaves an instant.
+pub fn messages()
+    ensures refine { MessagesRefine }
+    ensures moments { MomentsAreInstants }
+{
+    machines_are_seen();
+    steps_refine();
+    steps_keep();
+    units_keep();
 }
 
 /// Over any list of requests, moment lines and units, what is seen of a sound machine replies what the machine replies and is left
