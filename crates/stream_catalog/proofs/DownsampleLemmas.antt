@@ -37,8 +37,7 @@ folded_held f target rises by i is = record {
       routing_ascends = is.mapping.schema.routing_ascends;
       routed = is.mapping.schema.routed;
     };
-    some_shards = is.mapping.some_shards;
-    few_shards = is.mapping.few_shards;
+    shards = is.mapping.shards;
   };
   kind = (refl, refl);
   template = is.template;

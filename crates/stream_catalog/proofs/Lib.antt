@@ -16,7 +16,7 @@ mod UnitLemmas
 mod StreamLemmas
 mod KeptLemmas
 mod GoneLemmas
-mod RoleLemmas
+mod FieldNumbers
 mod TemplateLemmas
 mod WindowLemmas
 mod NewLemmas
@@ -24,3 +24,6 @@ mod RollLemmas
 mod MoveLemmas
 mod RunLemmas
 mod PlanLemmas
+mod AfterLemmas
+mod NameLemmas
+mod NamedKeptLemmas

@@ -19,6 +19,8 @@ use Rattle.downsample_fold.specs.Laws.{KeysAscend}
 use Rattle.index_names.specs.Backing.{backing_name, behind_stream, is_reserved}
 use Rattle.lifecycle_swap.specs.Ends.{end_after}
 use Rattle.ts_mapping.specs.declared.templates.Template.{Template}
+use Rattle.ts_mapping.specs.FactLaws.{mapping_is}
+use Rattle.ts_mapping.specs.Facts.{IsTemplate}
 use Rattle.stream_catalog.specs.declared.answers.CatalogError.{CatalogError}
 use Rattle.stream_catalog.specs.declared.answers.CatalogError.TheVariants.{NameTaken, NoTemplate, Reserved, Limit}
 use Rattle.stream_catalog.specs.declared.answers.What.TheVariants.{Streams, Indices}
@@ -27,7 +29,7 @@ use Rattle.stream_catalog.specs.Lists.{when, with_found, named, inserted, templa
 use Rattle.stream_catalog.specs.Names.{most_streams, most_indices, names_of, is_taken, matches, better_of, outranks, template_for}
 use Rattle.stream_catalog.specs.Streams.{new_index, new_stream, first_start, first_name, create_refusal}
 use Rattle.stream_catalog.specs.Laws.{CreationsKeepSound}
-use Rattle.stream_catalog.specs.Sound.{times, AreOnce, IsTemplate, IsThere, IsHeld, IsMemberOf, IsStream, Form, form_of, template_form, Agrees, IsIndexSound, IsUnderWay, AreFactsSound, IsSoundCatalog}
+use Rattle.stream_catalog.specs.Sound.{times, AreOnce, IsThere, IsHeld, IsMemberOf, IsStream, Form, form_of, template_form, Agrees, IsIndexSound, IsUnderWay, AreFactsSound, IsSoundCatalog}
 use Rattle.stream_catalog.proofs.NamedLemmas.{none_not_some, some_is, each_found, each_inserted, inserted-map}
 use Rattle.stream_catalog.proofs.CountLemmas.{bytes_eq-itself, times-append, times-none, times-inserted, named_new, length-inserted, ascend_inserted}
 use Rattle.stream_catalog.proofs.AddedLemmas.{Suits, each_of_map, in_three, alone_of, added_sound}
@@ -121,7 +123,7 @@ new_held f name t start end found is begins ends some = record {
   begins = begins;
   ends = ends;
   some = some;
-  mapping = record { schema = is.schema; some_shards = is.range.shards.0; few_shards = is.range.shards.1 };
+  mapping = mapping_is t is;
   kind = (is.raw, is.rising);
   template = subst IsThere (sym found) tt;
 }
@@ -213,7 +215,7 @@ created_facts f name now t is_now found is may sound =
     let with_index = record f { indices = js } in
     let ss = inserted stream_name s f.streams in
     let held = new_held f (first_name name now) t (first_start now t) (end_after now t.look_ahead) found is
-    (first_begins now t.look_back is_now is.range.look_back) (ends_is (now +ℤ t.look_ahead)) (first_opens now t.look_back t.look_ahead is_now is.range.look_back is.range.look_ahead) in
+    (first_begins now t.look_back is_now is.ranges.look_back) (ends_is (now +ℤ t.look_ahead)) (first_opens now t.look_back t.look_ahead is_now is.ranges.look_back is.ranges.look_ahead) in
     let grown = added_sound f j.facts may.index_free held (suits_new f t found sound) may.indices sound in
     let names = map stream_name f.streams in
     let indices = map facts_name f.indices in

@@ -15,6 +15,7 @@ use Rattle.downsample_fold.specs.Laws.{KeysAscend}
 use Rattle.index_names.specs.Backing.{greatest_generation}
 use Rattle.lifecycle_swap.specs.Ends.{end_after}
 use Rattle.ts_mapping.specs.declared.templates.Template.{Template}
+use Rattle.ts_mapping.specs.Facts.{IsTemplate}
 use Rattle.stream_catalog.specs.declared.answers.CatalogError.{CatalogError}
 use Rattle.stream_catalog.specs.declared.answers.CatalogError.TheVariants.{NameTaken, NoSuchName, Limit, TimeOver}
 use Rattle.stream_catalog.specs.declared.answers.What.TheVariants.{Indices, Generations}
@@ -24,7 +25,7 @@ use Rattle.stream_catalog.specs.Lists.{when, on_found, with_found, first_of, upd
 use Rattle.stream_catalog.specs.Names.{most_indices, is_taken}
 use Rattle.stream_catalog.specs.Streams.{last_of, write_name, next_name, next_index, with_next, rollover_refusal}
 use Rattle.stream_catalog.specs.Laws.{RolloversKeepSound}
-use Rattle.stream_catalog.specs.Sound.{times, AreOnce, IsTemplate, IsHeld, IsMemberOf, EndsBefore, WindowsFollow, IsStream, IsIndexSound, IsUnderWay, AreFactsSound, IsSoundCatalog}
+use Rattle.stream_catalog.specs.Sound.{times, AreOnce, IsHeld, IsMemberOf, EndsBefore, WindowsFollow, IsStream, IsIndexSound, IsUnderWay, AreFactsSound, IsSoundCatalog}
 use Rattle.stream_catalog.proofs.NamedLemmas.{none_not_some, some_is, each_found, each_inserted, each_updated, found_name, names_updated, inserted-map}
 use Rattle.stream_catalog.proofs.CountLemmas.{times-append, named_new, length-updated}
 use Rattle.stream_catalog.proofs.AddedLemmas.{alone_of, added_sound, still_there}
@@ -92,7 +93,7 @@ pub record MayRoll (f : PlainFacts) (s : PlainStream) (w : HeldIndex) (now : ℤ
   pub indices : length f.indices < 10000
   pub free : is_taken (next_name s now) f ≡ false
 
-may_roll : (f : PlainFacts) (name : List ℕ) (now : ℤ) (s : PlainStream) (w : HeldIndex) → stream_named name f.streams ≡ Some s → facts_named (write_name s) f.indices ≡ Some w → rollover_refusal f name now ≡ None → MayRoll f s w now
+pub may_roll : (f : PlainFacts) (name : List ℕ) (now : ℤ) (s : PlainStream) (w : HeldIndex) → stream_named name f.streams ≡ Some s → facts_named (write_name s) f.indices ≡ Some w → rollover_refusal f name now ≡ None → MayRoll f s w now
 may_roll f name now s w found there none =
     let of_stream : on_found (facts_named (write_name s) f.indices) (NoSuchName (write_name s)) (λ v. first_of (roll_tests f now s v)) ≡ None =
     sym (ap (λ o. on_found o (NoSuchName name) (λ (z : PlainStream). on_found (facts_named (write_name z) f.indices) (NoSuchName (write_name z)) (λ v. first_of (roll_tests f now z v)))) found) ∙ none in
@@ -129,7 +130,7 @@ rolled_facts f name now s t w is_now found by_name there may sound =
     let by_own : template_named t.name f.templates ≡ Some t = ap (λ n. template_named n f.templates) name_is ∙ by_name in
     let is = each_found template_name IsTemplate t.name f.templates t by_own sound.templates in
     let write = each_found facts_name (IsHeld f) (write_name s) f.indices w there sound.indices in
-    let held = new_held f x t w.end (end_after (int_max w.end now) t.look_ahead) by_own is write.ends (ends_is (int_max w.end now +ℤ t.look_ahead)) (next_opens w.end now t.look_ahead write.ends is_now may.time is.range.look_ahead) in
+    let held = new_held f x t w.end (end_after (int_max w.end now) t.look_ahead) by_own is write.ends (ends_is (int_max w.end now +ℤ t.look_ahead)) (next_opens w.end now t.look_ahead write.ends is_now may.time is.ranges.look_ahead) in
     let grown = added_sound f j.facts may.free held (suits_new f t by_own sound) may.indices sound in
     let fresh : times x (map facts_name f.indices) ≡ 0 = alone_of f x may.free in
     let look : facts_named x js ≡ Some j.facts = named_new facts_name j.facts f.indices fresh in

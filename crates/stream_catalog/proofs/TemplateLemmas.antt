@@ -1,9 +1,9 @@
 -- A catalogue with a template put stays sound.
-use Rattle.std.specs.Prelude.{◌≡◌, ℕ, suc, ◌≤◌, ◌<◌, ◌&&◌, ◌||◌, Bool, not, true, false, cond, nat_le, List, [], ◌∷◌, map, length, Option, Some, None, if◌then◌else◌, bytes_eq}
+use Rattle.std.specs.Prelude.{◌≡◌, ℕ, suc, ◌≤◌, ◌<◌, ◌&&◌, ◌||◌, ◌==◌, Bool, not, true, false, cond, nat_le, List, [], ◌∷◌, map, length, Option, Some, None, if◌then◌else◌, bytes_eq}
 use Rattle.std.specs.List.{list_any, find}
 use Rattle.std.specs.Option.{is_some, option_map, option_or}
 use Rattle.std.proofs.Common.{refl, ap, ◌∙◌, sym, subst, arith, inl, inr}
-use Rattle.std.proofs.lemmas.Bool.{leb-false}
+use Rattle.std.proofs.lemmas.Bool.{eqb-true, leb-false}
 use Rattle.std.proofs.lemmas.Slice.Eq.{bytes_eq-Decides}
 use Rattle.row_cells.specs.declared.schemas.FieldType.{FieldType}
 use Rattle.row_cells.specs.declared.schemas.Role.{Role}
@@ -11,7 +11,9 @@ use Rattle.row_cells.specs.declared.schemas.Field.{Field}
 use Rattle.row_cells.specs.Each.{Each}
 use Rattle.row_cells.specs.EachLaws.{Each-weaker, Each-both, Each-filter}
 use Rattle.row_cells.specs.Joining.{IsIn, FieldsAgree}
+use Rattle.ts_mapping.specs.Agreeing.{kind_number, role_number, is_other_field}
 use Rattle.ts_mapping.specs.declared.templates.Template.{Template}
+use Rattle.ts_mapping.specs.Facts.{IsTemplate}
 use Rattle.stream_catalog.specs.declared.answers.CatalogError.{CatalogError}
 use Rattle.stream_catalog.specs.declared.answers.CatalogError.TheVariants.{ChangedField, Limit}
 use Rattle.stream_catalog.specs.declared.answers.What.TheVariants.{Templates}
@@ -19,15 +21,14 @@ use Rattle.stream_catalog.specs.declared.facts.HeldIndex.{HeldIndex}
 use Rattle.stream_catalog.specs.Plain.{facts_of}
 use Rattle.stream_catalog.specs.Lists.{when, inserted, without, template_name, template_named}
 use Rattle.stream_catalog.specs.Names.{most_templates}
-use Rattle.stream_catalog.specs.Roles.{same_kind, same_role}
-use Rattle.stream_catalog.specs.Streams.{is_other_field, maps_otherwise, changed_field}
+use Rattle.stream_catalog.specs.Streams.{maps_otherwise, changed_field}
 use Rattle.stream_catalog.specs.Laws.{TemplatesKeepSound}
-use Rattle.stream_catalog.specs.Sound.{times, IsTemplate, IsThere, IsHeld, IsStream, form_of, template_form, Agrees}
+use Rattle.stream_catalog.specs.Sound.{times, IsThere, IsHeld, IsStream, form_of, template_form, Agrees}
 use Rattle.stream_catalog.proofs.NamedLemmas.{none_not_some, none_found, each_inserted, named_inserted, named_without}
 use Rattle.stream_catalog.proofs.CountLemmas.{named_new, length-filter, length-inserted, length-without, ascend_inserted, ascend_filter}
 use Rattle.stream_catalog.proofs.AddedLemmas.{each_map, each_of_map}
 use Rattle.stream_catalog.proofs.FoldedLemmas.{none_first, none_when, none_map}
-use Rattle.stream_catalog.proofs.RoleLemmas.{same_kind-is, same_role-is}
+use Rattle.stream_catalog.proofs.FieldNumbers.{kind_by_number, role_by_number}
 
 -- ---- what is taken out is gone
 
@@ -56,14 +57,15 @@ no_other test (x ∷ xs) none g is_in = by_test (test x) refl none (λ left late
 
 -- a field that isn't another one of its path is the same
 same_field : (f g : Field) → g.path ≡ f.path → is_other_field f g ≡ false → g ≡ f
-same_field f g path other = by_tests (same_kind f.kind g.kind) (same_role f.role g.role) refl refl (ap (λ b. b && not (same_kind f.kind g.kind && same_role f.role g.role)) (sym ((bytes_eq-Decides f.path g.path).1 (sym path))) ∙ other)
+same_field f g path other = by_tests (kind_number f.kind == kind_number g.kind) (role_number f.role == role_number g.role) refl refl (ap (λ b. b && not ((kind_number f.kind == kind_number g.kind) && (role_number f.role == role_number g.role))) (sym ((bytes_eq-Decides f.path g.path).1 (sym path))) ∙ other)
   where
     made : List ℕ → FieldType → Role → Field
     made path kind role = record { path = path; kind = kind; role = role }
 
-    by_tests : (a b : Bool) → same_kind f.kind g.kind ≡ a → same_role f.role g.role ≡ b → not (a && b) ≡ false → g ≡ f
+    by_tests : (a b : Bool) → (kind_number f.kind == kind_number g.kind) ≡ a → (role_number f.role == role_number g.role) ≡ b → not (a && b) ≡ false → g ≡ f
     by_tests true true kind role is =
-        ap (λ p. made p g.kind g.role) path ∙ (ap (λ k. made f.path k g.role) (sym (same_kind-is f.kind g.kind kind)) ∙ ap (λ r. made f.path f.kind r) (sym (same_role-is f.role g.role role)))
+        ap (λ p. made p g.kind g.role) path ∙ (ap (λ k. made f.path k g.role) (sym (kind_by_number f.kind g.kind (eqb-true (kind_number f.kind) (kind_number g.kind) kind)))
+        ∙ ap (λ r. made f.path f.kind r) (sym (role_by_number f.role g.role (eqb-true (role_number f.role) (role_number g.role) role))))
     by_tests true false kind role is = cc
     by_tests false b kind role is = cc
 

@@ -194,7 +194,7 @@ others_of n (t ∷ ts) none = let head = other_head n t.index (map (λ (u : Task
 -- ---- the swap
 
 -- the new name is that of no index, and other tasks are of other indices
-swap_told : (f : PlainFacts) (task : TaskFacts) (ts : List TaskFacts) (i : HeldIndex) → f.tasks ≡ task ∷ ts → facts_named task.index f.indices ≡ Some i → AreFactsSound f →
+pub swap_told : (f : PlainFacts) (task : TaskFacts) (ts : List TaskFacts) (i : HeldIndex) → f.tasks ≡ task ∷ ts → facts_named task.index f.indices ≡ Some i → AreFactsSound f →
     (times task.target (map facts_name f.indices) ≡ 0) × Each (λ t. bytes_eq i.name t.index ≡ false) ts
 swap_told f task ts i is there sound =
     let at : i.name ≡ task.index = (bytes_eq-Decides i.name task.index).0 (found_name facts_name task.index f.indices i there) in

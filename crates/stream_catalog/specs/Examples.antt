@@ -23,7 +23,7 @@ use Rattle.stream_catalog.specs.declared.answers.Move.TheVariants.{Remove, Add}
 use Rattle.stream_catalog.specs.declared.facts.HeldIndex.{HeldIndex}
 use Rattle.stream_catalog.specs.declared.facts.TaskFacts.{TaskFacts}
 use Rattle.stream_catalog.specs.Plain.{PlainStream, PlainCatalog, facts_of}
-use Rattle.stream_catalog.specs.Ways.{plain_way, seen_way, see_catalog}
+use Rattle.stream_catalog.specs.Ways.{plain_way, seen_way, see_catalog, kept_rows}
 use Rattle.stream_catalog.specs.Indices.{downsample_refusal, downsampled, delete_refusal, index_deleted}
 use Rattle.stream_catalog.specs.Moves.{moves_refusal, moved_all}
 use Rattle.stream_catalog.specs.Puts.{put_into, picked_by}
@@ -269,3 +269,41 @@ run_folds_first = refl
 pub run_retention_wins : (lifecycle_run (two false after_four []) (pos 14000)).ran ≡ record { extended = 1; deleted = 1; started = 0 }
 unfolding lifecycle_run
 run_retention_wins = refl
+
+-- one run that extends, deletes and starts: of three members the write index ends later, the oldest one goes, and the one between
+-- is folded; what went is no member, and what is folded is blocked
+abbrev oldest_facts : HeldIndex
+oldest_facts = record (old_facts false) { name = codes "0"; origin = codes "0"; end = pos 5000 }
+
+abbrev between_facts : HeldIndex
+between_facts = record (old_facts false) { start = pos 5000 }
+
+abbrev three : PlainCatalog
+three = record (two false None []) {
+  streams = record {
+    facts = record { name = codes "s"; template = codes "t"; generation = 3; members = codes "0" ∷ codes "a" ∷ codes "b" ∷ [] };
+    life = keeping_later (Some (seconds 8 (omega arith) (omega arith)));
+  } ∷ [];
+  indices = record { facts = oldest_facts; rows = [] } ∷ record { facts = between_facts; rows = [] } ∷ record { facts = new_facts; rows = [] } ∷ [];
+}
+
+pub run_all : (lifecycle_run three (pos 15000)).ran ≡ record { extended = 1; deleted = 1; started = 1 }
+unfolding lifecycle_run
+run_all = refl
+
+pub run_all_windows : windows (lifecycle_run three (pos 15000)).catalog ≡ (pos 5000, pos 10000) ∷ (pos 10000, pos 75000) ∷ []
+unfolding lifecycle_run
+run_all_windows = refl
+
+pub run_all_members : map (λ (s : PlainStream). s.facts.members) (lifecycle_run three (pos 15000)).catalog.streams ≡ (codes "a" ∷ codes "b" ∷ []) ∷ []
+unfolding lifecycle_run
+run_all_members = refl
+
+pub run_all_blocked : map (λ i. i.facts.blocked) (lifecycle_run three (pos 15000)).catalog.indices ≡ true ∷ false ∷ []
+unfolding lifecycle_run
+run_all_blocked = refl
+
+-- what a task keeps before the swap is the fold of its first series, in row order: the one of host a
+pub kept_first : map (λ (r : Row). r.key) (kept_rows (task_of (codes "a") (codes "f") 1 true) (record { facts = old_facts true; rows = row_at 98 1100 3 ∷ row_at 97 1500 7 ∷ [] })) ≡ key 97 ∷ []
+unfolding down bucket_start
+kept_first = refl

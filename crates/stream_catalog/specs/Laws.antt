@@ -1,27 +1,37 @@
 -- The laws that tie a plain catalogue to what is seen of it.
-use Rattle.std.specs.Prelude.{◌≡◌, ℕ, ℤ, Bool, true, false, List, length, Option, None, Some}
+use Rattle.std.specs.Prelude.{◌≡◌, ℕ, ℤ, ◌++◌, Bool, true, false, List, ◌∷◌, map, length, Option, None, Some, IsTrue}
+use Rattle.std.specs.List.{slice_get}
 use Rattle.std.specs.Option.{option_map}
 use Rattle.row_cells.specs.declared.rows.Row.{Row}
 use Rattle.row_cells.specs.Each.{Each}
+use Rattle.row_cells.specs.Joining.{FieldsAgree}
 use Rattle.row_cells.specs.KeyedRows.{AreRowsOf}
 use Rattle.row_cells.specs.RowLists.{AreDistinct, has_place, in_row_order}
 use Rattle.time_text.specs.Instant.{IsInstant}
 use Rattle.time_text.specs.declared.intervals.Interval.{Interval}
+use Rattle.time_text.specs.Interval.{ms_of}
+use Rattle.downsample_fold.specs.Direct.{down}
 use Rattle.downsample_fold.specs.Laws.{series_of}
+use Rattle.downsample_fold.specs.Places.{rows_of}
+use Rattle.index_names.specs.Names.{is_stream_name, is_target_name}
 use Rattle.lifecycle_swap.specs.Lifecycles.{IsLifecycle}
 use Rattle.lifecycle_swap.specs.declared.lifecycles.Lifecycle.{Lifecycle}
+use Rattle.ts_mapping.specs.Facts.{IsTemplate}
 use Rattle.ts_mapping.specs.declared.templates.Template.{Template}
 use Rattle.stream_catalog.specs.declared.answers.Move.{Move}
-use Rattle.stream_catalog.specs.Plain.{PlainIndex, PlainCatalog, facts_of}
-use Rattle.stream_catalog.specs.Ways.{Way, plain_way, seen_way, see_index, see_catalog, kept_rows}
-use Rattle.stream_catalog.specs.Lists.{index_named}
-use Rattle.stream_catalog.specs.Streams.{template_refusal, template_put, create_refusal, created, stream_deleted, life_set, rollover_refusal, rolled_over}
-use Rattle.stream_catalog.specs.Indices.{blocked_in, delete_refusal, downsample_refusal, downsampled, index_deleted}
-use Rattle.stream_catalog.specs.Moves.{moves_refusal, moved_all}
+use Rattle.stream_catalog.specs.declared.answers.Move.TheVariants.{Remove}
+use Rattle.stream_catalog.specs.declared.facts.TaskFacts.{TaskFacts}
+use Rattle.stream_catalog.specs.Plain.{PlainIndex, PlainStream, PlainCatalog, PlainFacts, facts_of}
+use Rattle.stream_catalog.specs.Ways.{Way, plain_way, seen_way, see_index, see_catalog, task_schema, kept_rows}
+use Rattle.stream_catalog.specs.Lists.{stream_named, index_named}
+use Rattle.stream_catalog.specs.Streams.{template_refusal, template_put, create_refusal, created, stream_deleted, life_set, write_name, next_name, rollover_refusal, rolled_over}
+use Rattle.stream_catalog.specs.Indices.{task_index, blocked_in, delete_refusal, downsample_refusal, downsampled, index_deleted}
+use Rattle.stream_catalog.specs.Moves.{moves_refusal, moved_by, moved_all}
 use Rattle.stream_catalog.specs.Puts.{MayPut, put_into}
 use Rattle.stream_catalog.specs.Rounds.{Running, lifecycle_run}
 use Rattle.stream_catalog.specs.Units.{unit_of}
-use Rattle.stream_catalog.specs.Sound.{IsTemplate, IsIndexSound, IsSoundCatalog, IsSeenCatalog}
+use Rattle.stream_catalog.specs.WellNamed.{IsWellNamed}
+use Rattle.stream_catalog.specs.Sound.{times, IsHeld, IsIndexSound, IsSoundCatalog, IsSeenCatalog}
 
 -- what is seen of a sound catalogue is sound, and seen again itself
 abbrev pub SeenAgain : Type 0
@@ -89,6 +99,15 @@ LookupsStay = (c : PlainCatalog) (n : List ℕ) → index_named n (see_catalog c
 abbrev pub FoundIsSound : Type 0
 FoundIsSound = (c : PlainCatalog) (n : List ℕ) (i : PlainIndex) → IsSoundCatalog c → index_named n c.indices ≡ Some i → IsIndexSound i
 
+-- and its facts are sound
+abbrev pub FoundIsHeld : Type 0
+FoundIsHeld = (c : PlainCatalog) (n : List ℕ) (i : PlainIndex) → IsSoundCatalog c → index_named n c.indices ≡ Some i → IsHeld (facts_of c) i.facts
+
+-- two indices of one template's name map no path in two ways
+abbrev pub FoundAgree : Type 0
+FoundAgree = (c : PlainCatalog) (m n : List ℕ) (i j : PlainIndex) → IsSoundCatalog c → index_named m c.indices ≡ Some i → index_named n c.indices ≡ Some j → i.facts.template ≡ j.facts.template →
+    FieldsAgree i.facts.mapping.schema.fields j.facts.mapping.schema.fields
+
 -- places and numbers of rows don't ask for their order
 pub record RowTestsStay : Type 0 where
   pub place : (key : List ℕ) (time : ℤ) (rows : List Row) → has_place key time (in_row_order rows) ≡ has_place key time rows
@@ -112,6 +131,56 @@ TasksKeep = (c : PlainCatalog) → IsSoundCatalog c → Each (λ task. (i : Plai
 -- an index that is seen again itself has rows of its schema
 abbrev pub ShownRows : Type 0
 ShownRows = (c : PlainCatalog) (n : List ℕ) (i : PlainIndex) → IsSeenCatalog c → index_named n c.indices ≡ Some i → AreRowsOf i.facts.mapping.schema i.rows
+
+-- ---- what units, rollovers and removals leave
+
+-- the fold of one series of a task's index
+abbrev pub series_rows : TaskFacts → PlainIndex → List ℕ → List Row
+series_rows task i key = down (task_schema task i.facts) (rows_of key i.rows) (ms_of task.by)
+
+-- the oldest task, its index, and the series that it folds next
+pub record IsNext (c : PlainCatalog) (task : TaskFacts) (i : PlainIndex) (key : List ℕ) : Type 0 where
+  pub rest : List TaskFacts
+  pub oldest : c.tasks ≡ task ∷ rest
+  pub there : index_named task.index c.indices ≡ Some i
+  pub next : slice_get (series_of i.rows) task.done ≡ Some key
+
+-- a task that goes on keeps the fold of one series more, behind those that it kept
+abbrev pub UnitsGoOn : Type 0
+UnitsGoOn = (c : PlainCatalog) (task t : TaskFacts) (ts : List TaskFacts) (i : PlainIndex) (key : List ℕ) → IsSoundCatalog c → IsNext c task i key →
+    (unit_of plain_way c).tasks ≡ t ∷ ts → t.index ≡ task.index → kept_rows t i ≡ kept_rows task i ++ series_rows task i key
+
+-- what takes the place of a task's index shows what the task kept, and the fold of the last series behind it
+abbrev pub UnitsEnd : Type 0
+UnitsEnd = (c : PlainCatalog) (task : TaskFacts) (i j : PlainIndex) (key : List ℕ) → IsSoundCatalog c → IsNext c task i key →
+    index_named task.target (unit_of plain_way c).indices ≡ Some j → (see_index j).rows ≡ kept_rows task i ++ series_rows task i key
+
+-- the window of a new write index begins where that of the one before it ends
+abbrev pub RolloversJoin : Type 0
+RolloversJoin = (c : PlainCatalog) (name : List ℕ) (now : ℤ) (s : PlainStream) (w n : PlainIndex) → rollover_refusal (facts_of c) name now ≡ None →
+    stream_named name c.streams ≡ Some s → index_named (write_name s) c.indices ≡ Some w → index_named (next_name s now) (rolled_over c name now).indices ≡ Some n →
+    n.facts.start ≡ w.facts.end
+
+-- once an index was taken out of its stream no task folds it, whatever moves come before and behind
+abbrev pub RemovalsEndTasks : Type 0
+RemovalsEndTasks = (f : PlainFacts) (stream index : List ℕ) (before after : List Move) → times index (map task_index (moved_by f (before ++ Remove stream index ∷ after)).tasks) ≡ 0
+
+-- ---- names stay well formed, in either way
+
+pub record NamesKeep : Type 0 where
+  pub seen : (c : PlainCatalog) → IsWellNamed c → IsWellNamed (see_catalog c)
+  pub templates : (c : PlainCatalog) (t : Template) → IsTrue (is_stream_name t.name) → IsWellNamed c → IsWellNamed (template_put c t)
+  pub creations : (c : PlainCatalog) (name : List ℕ) (now : ℤ) → IsTrue (is_stream_name name) → IsInstant now → IsWellNamed c → IsWellNamed (created c name now)
+  pub stream_deletions : (c : PlainCatalog) (name : List ℕ) → IsWellNamed c → IsWellNamed (stream_deleted c name)
+  pub lives : (c : PlainCatalog) (name : List ℕ) (life : Lifecycle) → IsWellNamed c → IsWellNamed (life_set c name life)
+  pub rollovers : (c : PlainCatalog) (name : List ℕ) (now : ℤ) → IsInstant now → rollover_refusal (facts_of c) name now ≡ None → IsWellNamed c → IsWellNamed (rolled_over c name now)
+  pub blocks : (c : PlainCatalog) (n : List ℕ) → IsWellNamed c → IsWellNamed (blocked_in c n)
+  pub puts : (way : Way) (c : PlainCatalog) (n : List ℕ) (row : Row) → IsWellNamed c → IsWellNamed (put_into way c n row)
+  pub downsamples : (way : Way) (c : PlainCatalog) (source target : List ℕ) (by : Interval) → IsTrue (is_target_name target) → IsWellNamed c → IsWellNamed (downsampled way c source target by)
+  pub deletions : (c : PlainCatalog) (n : List ℕ) → IsWellNamed c → IsWellNamed (index_deleted c n)
+  pub moves : (c : PlainCatalog) (moves : List Move) → IsWellNamed c → IsWellNamed (moved_all c moves)
+  pub units : (way : Way) (c : PlainCatalog) → IsWellNamed c → IsWellNamed (unit_of way c)
+  pub runs : (c : PlainCatalog) (now : ℤ) → IsWellNamed c → IsWellNamed (lifecycle_run c now).catalog
 
 -- ---- sound catalogues stay sound
 

@@ -1,8 +1,8 @@
 pub mod Plain
 pub mod Ways
+pub mod WellNamed
 pub mod Lists
 pub mod Names
-pub mod Roles
 pub mod Streams
 pub mod Indices
 pub mod Moves

@@ -20,9 +20,7 @@ use Rattle.downsample_fold.specs.Laws.{series_of, KeysAscend}
 use Rattle.index_names.specs.Backing.{greatest_generation}
 use Rattle.lifecycle_swap.specs.Lifecycles.{IsLifecycle}
 use Rattle.lifecycle_swap.specs.declared.lifecycles.Lifecycle.{Lifecycle}
-use Rattle.ts_mapping.specs.Ranges.{IsInRange}
-use Rattle.ts_mapping.specs.Schemas.{IsTemplateSchema}
-use Rattle.ts_mapping.specs.declared.templates.Mapping.{Mapping}
+use Rattle.ts_mapping.specs.Facts.{IsMapping, IsTemplate}
 use Rattle.ts_mapping.specs.declared.templates.Template.{Template}
 use Rattle.stream_catalog.specs.declared.facts.HeldIndex.{HeldIndex}
 use Rattle.stream_catalog.specs.Plain.{PlainIndex, PlainStream, PlainCatalog, PlainFacts, facts_of}
@@ -66,21 +64,6 @@ pub record IsIndexSound (i : PlainIndex) : Type 0 where
   pub rows : AreRows i.facts.interval i.facts.mapping.schema i.facts.start i.facts.end i.rows
   pub distinct : AreDistinct i.rows
   pub few : documents i.rows ≤ most_documents
-
--- ---- templates
-
--- a template that some body gives: what is known of it
-pub record IsTemplate (t : Template) : Type 0 where
-  pub schema : IsTemplateSchema t.schema
-  pub raw : t.schema.folded ≡ false
-  pub rising : t.schema.rises ≡ true
-  pub range : IsInRange t
-
--- a mapping that some template had, in any form
-pub record IsMapping (m : Mapping) : Type 0 where
-  pub schema : IsTemplateSchema m.schema
-  pub some_shards : 1 ≤ m.shards
-  pub few_shards : m.shards ≤ 64
 
 -- ---- facts
 

@@ -5,6 +5,7 @@ use Rattle.std.specs.List.{list_any, find}
 use Rattle.std.specs.Option.{is_some, option_map, option_or}
 use Rattle.std.specs.Ordering.{int_eq}
 use Rattle.row_cells.specs.declared.schemas.Field.{Field}
+use Rattle.ts_mapping.specs.Agreeing.{is_other_field}
 use Rattle.ts_mapping.specs.Ranges.{mapping_of}
 use Rattle.ts_mapping.specs.declared.templates.Template.{Template}
 use Rattle.index_names.specs.Backing.{backing_name, greatest_generation, is_reserved}
@@ -19,7 +20,6 @@ use Rattle.stream_catalog.specs.declared.facts.HeldIndex.{HeldIndex}
 use Rattle.stream_catalog.specs.Plain.{PlainIndex, PlainStream, PlainCatalog, PlainFacts}
 use Rattle.stream_catalog.specs.Lists.{when, on_found, with_found, first_of, updated, inserted, without, template_name, stream_name, index_name, template_named, stream_named, facts_named, index_named}
 use Rattle.stream_catalog.specs.Names.{most_templates, most_streams, most_indices, is_taken, template_for}
-use Rattle.stream_catalog.specs.Roles.{same_kind, same_role}
 
 -- why a call refused: its refusal, or want of memory, which may come at any time
 abbrev pub IsCause : Option CatalogError → CatalogError → Type 0
@@ -27,10 +27,6 @@ IsCause refusal NoMemory = Unit {0}
 IsCause refusal e = refusal ≡ Some e
 
 -- ---- a template
-
--- a field of this path with another type or role
-abbrev pub is_other_field : Field → Field → Bool
-is_other_field f g = bytes_eq f.path g.path && not (same_kind f.kind g.kind && same_role f.role g.role)
 
 -- an index of this template's name maps the field's path in another way
 abbrev pub maps_otherwise : List ℕ → Field → HeldIndex → Bool

@@ -1,5 +1,6 @@
 //! The laws that tie a plain catalogue to what is seen of it, for crates above.
 ghost use Rattle.stream_catalog.specs.Laws.{FoundIsSound, Keeps, LookupsStay, PutsKeepShowing, SoundShows, SeenAgain, FactsStay, ChangesGoThrough, RunsGoThrough, PutsGoThrough, RowTestsStay, SeriesStay, DownsamplesGoThrough, UnitsGoThrough, TasksKeep, ShownRows};
+ghost use Rattle.stream_catalog.specs.Laws.{FoundIsHeld, FoundAgree, UnitsGoOn, NamesKeep, UnitsEnd, RolloversJoin, RemovalsEndTasks};
 ghost use Rattle.stream_catalog.specs.Laws.{BlocksKeepSound, CreationsKeepSound, DeletionsKeepSound, DownsamplesKeepSound, LivesKeepSound, MovesKeepSound, PutsKeepSound, RolloversKeepSound, RunsKeepSound, StreamDeletionsKeepSound, TemplatesKeepSound, UnitsKeepSound};
 
 /// What is seen of a sound catalogue is sound, and seen again itself.
@@ -24,6 +25,8 @@ pub fn tests_stay()
 /// What is known of a sound catalogue's indices.
 pub fn indices_are_sound()
     ensures found { FoundIsSound }
+    ensures held { FoundIsHeld }
+    ensures agree { FoundAgree }
     ensures shows { SoundShows }
 {}
 
@@ -40,6 +43,27 @@ pub fn changes_go_through()
 /// What a task keeps of what is shown is what it keeps of all rows.
 pub fn tasks_keep()
     ensures { TasksKeep }
+{}
+
+/// A unit folds one series more of the oldest task's index; with the last one its fold takes the index's place.
+pub fn units_go_on()
+    ensures more { UnitsGoOn }
+    ensures last { UnitsEnd }
+{}
+
+/// The windows of a stream's write indices join one another.
+pub fn rollovers_join()
+    ensures { RolloversJoin }
+{}
+
+/// An index that was taken out of its stream has no task.
+pub fn removals_end_tasks()
+    ensures { RemovalsEndTasks }
+{}
+
+/// Each change leaves names well formed.
+pub fn names_keep()
+    ensures { NamesKeep }
 {}
 
 /// A sound catalogue stays sound.

@@ -1,6 +1,8 @@
 -- The laws of catalogues that these proofs stand on, together.
-use Rattle.stream_catalog.specs.Laws.{FactsStay, RowTestsStay, SeriesStay, LookupsStay, FoundIsSound, SoundShows, ChangesGoThrough, RunsGoThrough, PutsGoThrough, PutsKeepShowing, DownsamplesGoThrough, UnitsGoThrough}
-use Rattle.stream_catalog.specs.Laws.{BlocksKeepSound, CreationsKeepSound, DeletionsKeepSound, DownsamplesKeepSound, LivesKeepSound, MovesKeepSound, RolloversKeepSound, RunsKeepSound, StreamDeletionsKeepSound}
+use Rattle.stream_catalog.specs.Laws.{FactsStay, FoundIsHeld, NamesKeep, RowTestsStay, SeriesStay, LookupsStay, FoundIsSound, SoundShows, ChangesGoThrough, RunsGoThrough, PutsGoThrough, PutsKeepShowing, DownsamplesGoThrough, UnitsGoThrough}
+use Rattle.stream_catalog.specs.Laws.{BlocksKeepSound, CreationsKeepSound, DeletionsKeepSound, DownsamplesKeepSound, LivesKeepSound, MovesKeepSound, RolloversKeepSound, PutsKeepSound, RunsKeepSound, StreamDeletionsKeepSound, TemplatesKeepSound}
+use Rattle.synthetic_source.specs.Laws.{CellsOfDocumentsFit}
+use Rattle.ts_mapping.specs.Laws.{BodiesAreTemplates}
 
 pub record CatalogLaws : Type 0 where
   pub facts : FactsStay
@@ -27,3 +29,10 @@ pub record SoundLaws : Type 0 where
   pub rollovers : RolloversKeepSound
   pub moves : MovesKeepSound
   pub runs : RunsKeepSound
+  pub templates : TemplatesKeepSound
+  pub puts : PutsKeepSound
+  pub held : FoundIsHeld
+  pub names : NamesKeep
+  -- what requests put are templates and rows
+  pub bodies : BodiesAreTemplates
+  pub cells : CellsOfDocumentsFit

@@ -34,10 +34,10 @@ use Rattle.tsds_service.proofs.PickLemmas.{picked_open}
 
 -- ---- look-ups in lists of indices
 
-none_not_some : {A : Type 0} {a : A} → None ≡ Some a → ⊥
+pub none_not_some : {A : Type 0} {a : A} → None ≡ Some a → ⊥
 none_not_some e = cc
 
-some_is : {A : Type 0} {a b : A} → Some a ≡ Some b → a ≡ b
+pub some_is : {A : Type 0} {a b : A} → Some a ≡ Some b → a ≡ b
 some_is e = cc
 
 pub each_named : (P : PlainIndex → Type 0) (n : List ℕ) (is : List PlainIndex) (i : PlainIndex) → index_named n is ≡ Some i → Each P is → P i
@@ -48,13 +48,13 @@ each_named P n (j ∷ js) i found each = by_test (bytes_eq j.facts.name n) found
     by_test true found later = subst P (some_is found) each.0
     by_test false found later = later found
 
-barred_not : {cause : ItemCause} {n : List ℕ} {row : Row} → barred cause ≡ taken n row → ⊥
+pub barred_not : {cause : ItemCause} {n : List ℕ} {row : Row} → barred cause ≡ taken n row → ⊥
 barred_not e = cc
 
-taken_name : {m n : List ℕ} {r row : Row} → taken m r ≡ taken n row → m ≡ n
+pub taken_name : {m n : List ℕ} {r row : Row} → taken m r ≡ taken n row → m ≡ n
 taken_name e = cc
 
-taken_row : {m n : List ℕ} {r row : Row} → taken m r ≡ taken n row → r ≡ row
+pub taken_row : {m n : List ℕ} {r row : Row} → taken m r ≡ taken n row → r ≡ row
 taken_row e = cc
 
 module _ (laws : CatalogLaws) where

@@ -2,7 +2,12 @@ mod CatalogLaws
 mod SampleLemmas
 mod PickLemmas
 mod ItemLemmas
+mod SourceLemmas
+mod TakesLemmas
+mod TargetLemmas
 mod StepLemmas
 mod MachineLemmas
 mod SoundLemmas
 mod UnitLemmas
+mod TurnLemmas
+mod FirstLemmas

@@ -1,7 +1,7 @@
 -- Units, and what a machine begins as.
 use Rattle.std.specs.Prelude.{zero, suc, Bool}
 use Rattle.std.proofs.Common.{refl, ap, ◌∙◌, sym, subst, arith}
-use Rattle.stream_catalog.specs.Laws.{UnitsKeepSound as CatalogUnitsKeepSound}
+use Rattle.stream_catalog.specs.Laws.{NamesKeep, UnitsKeepSound as CatalogUnitsKeepSound}
 use Rattle.stream_catalog.specs.Plain.{facts_of}
 use Rattle.stream_catalog.specs.Sound.{AreFactsSound}
 use Rattle.stream_catalog.specs.Ways.{plain_way, seen_way}
@@ -34,17 +34,18 @@ empty_is_seen kept = record {
   sound = record {
     catalog = record { facts = empty_facts kept; indices = tt; tasks = tt };
     now = (omega arith, omega arith);
+    names = record { templates = tt; streams = tt; indices = tt; tasks = tt };
   };
   again = refl;
 }
 
 -- ---- a unit
 
-pub units_keep_sound : CatalogUnitsKeepSound → UnitsKeepSound
-units_keep_sound keep m sound = record { catalog = keep m.catalog sound.catalog; now = sound.now }
+pub units_keep_sound : CatalogUnitsKeepSound → NamesKeep → UnitsKeepSound
+units_keep_sound keep names m sound = record { catalog = keep m.catalog sound.catalog; now = sound.now; names = names.units plain_way m.catalog sound.names }
 
-pub units_keep_seen : CatalogUnitsKeepSound → SeenAgain → UnitsStand → UnitsKeepSeen
-units_keep_seen keep again stand m seen = subst IsSeen (sym (stand m seen)) (again (unit plain_way m) (units_keep_sound keep m seen.sound))
+pub units_keep_seen : CatalogUnitsKeepSound → NamesKeep → SeenAgain → UnitsStand → UnitsKeepSeen
+units_keep_seen keep names again stand m seen = subst IsSeen (sym (stand m seen)) (again (unit plain_way m) (units_keep_sound keep names m seen.sound))
 
 -- ---- any number of units
 

@@ -1,5 +1,7 @@
 -- The definitions on a small machine, worked out: a stream of two members, and two rows in the first of them.
-use Rattle.std.specs.Prelude.{Err, map}
+use Rattle.std.specs.Char.{encode_utf8}
+use Rattle.std.specs.Str.{is_utf8, chars}
+use Rattle.std.specs.Prelude.{ℤ, Err, map}
 use Rattle.std.proofs.Common.{◌≡◌, Bool, ℕ, pos, List, [], ◌∷◌, Option, Some, None, true, false, refl, arith, codes}
 use Rattle.std.proofs.lemmas.Slice.Eq.{bytes_eq-Decides}
 use Rattle.reply_json.specs.Trees as tree
@@ -19,7 +21,7 @@ use Rattle.serde_json.specs.Data.{Data, number, string, array, object, unsigned,
 use Rattle.series_id.specs.Ids.{id_of}
 use Rattle.series_id.specs.declared.keys.KeyError.TheVariants.{KeyTooLong}
 use Rattle.stream_catalog.specs.Plain.{PlainIndex, PlainStream, PlainCatalog, facts_of}
-use Rattle.stream_catalog.specs.Puts.{is_full}
+use Rattle.stream_catalog.specs.Puts.{is_full, put_into}
 use Rattle.stream_catalog.specs.Ways.{plain_way}
 use Rattle.stream_catalog.specs.declared.facts.HeldIndex.{HeldIndex}
 use Rattle.stream_catalog.specs.declared.facts.TaskFacts.{TaskFacts}
@@ -43,7 +45,8 @@ use Rattle.tsds_service.specs.Messages.{moment_by}
 use Rattle.tsds_service.specs.Questions.{Asking, no_document, document_reply}
 use Rattle.tsds_service.specs.Replies.{ack, interval_word, ran_reply, rolled_reply, tasks_reply}
 use Rattle.tsds_service.specs.Step.{told, downsample_by, get_document, modify, run_lifecycle, step}
-use Rattle.tsds_service.specs.Bulk.{Outcome, taken, barred, by_document, by_key, by_place, item_outcome, item_tree, bulk_reply}
+use Rattle.tsds_service.specs.Turns.{asks, works, Standing, replies, behind, last_written}
+use Rattle.tsds_service.specs.Bulk.{Outcome, taken, barred, after_outcome, by_document, by_key, by_place, item_outcome, item_tree, bulk_reply}
 use Rattle.tsds_service.specs.Causes as cause
 use Rattle.tsds_service.specs.Causes.{Cause, ItemCause, refused, said, item_said, only_create, no_stream, no_object, bad_time, outside, blocked, bad_document, no_routing, long_key, conflict, full}
 
@@ -138,7 +141,7 @@ pub ninth_cause : by_key (codes "a") (first_index false) (pos 1600) [] (Err (Key
 ninth_cause = refl
 
 pub tenth_cause : outcome false (document 98 1100 1) ≡ barred (conflict (id_of (key 98) (pos 1100)))
-unfolding time_fault time_of leaf.leaves_of document_cells fault_at
+unfolding time_fault time_of leaf.leaves_of document_cells fault_at is_utf8 chars encode_utf8
 tenth_cause = refl
 
 pub eleventh_cause : (i : PlainIndex) (row : Row) → has_place row.key row.time i.rows ≡ false → is_full i.rows ≡ true → by_place (codes "a") i row ≡ barred (full (codes "a"))
@@ -154,8 +157,15 @@ conflict_first i row held is = rw held refl
 
 -- a document that nothing bars
 pub taken_item : outcome false (document 97 1600 1) ≡ taken (codes "a") (row_at 97 1600 1)
-unfolding time_fault time_of leaf.leaves_of document_cells fault_at
+unfolding time_fault time_of leaf.leaves_of document_cells fault_at is_utf8 chars encode_utf8
 taken_item = refl
+
+-- and what it leaves
+pub put_left : after_outcome plain_way (two false None []) (taken (codes "a") (row_at 97 1600 1)) ≡ put_into plain_way (two false None []) (codes "a") (row_at 97 1600 1)
+put_left = refl
+
+pub barred_left : after_outcome plain_way (two false None []) (barred no_object) ≡ two false None []
+barred_left = refl
 
 -- ---- steps
 
@@ -260,6 +270,28 @@ moment_earlier = refl
 
 pub moment_unread : moment_by (pos 5) None ≡ record { reply = Some (refused cause.bad_moment); now = pos 5 }
 moment_unread = refl
+
+-- ---- turns
+
+abbrev standing : Machine → Standing
+standing m = record { machine = m; present = pos 15000 }
+
+-- two units end a fold of two series
+pub units_swap : (asking : Asking) → names (behind asking plain_way (standing (folding 0)) (works ∷ works ∷ [])).machine.catalog ≡ codes "b" ∷ codes "f" ∷ []
+unfolding unit_of
+units_swap asking = refl
+
+-- what a flush writes is the machine right after its step
+abbrev recorded : ℤ → Machine
+recorded now = record (folding 0) { kept = true; now = now }
+
+pub flush_written : (asking : Asking) → last_written asking plain_way None (standing (recorded (pos 15000))) (asks flush (pos 16000) ∷ works ∷ []) ≡ Some (recorded (pos 16000))
+unfolding step unit_of
+flush_written asking = refl
+
+pub flush_told : (asking : Asking) → replies asking plain_way (standing (recorded (pos 15000))) (works ∷ asks flush (pos 16000) ∷ []) ≡ ack ∷ []
+unfolding step unit_of
+flush_told asking = refl
 
 -- ---- replies: their members, in order
 

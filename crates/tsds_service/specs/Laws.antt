@@ -1,13 +1,24 @@
 -- What is seen of a machine answers as the machine.
-use Rattle.std.specs.Prelude.{◌≡◌, ℕ, ℤ, Bool, List, map}
-use Rattle.rest_request.specs.Message as asked
+use Rattle.std.specs.Prelude.{◌≡◌, ◌≤◌, ℕ, ℤ, Bool, List, length, take, Some, Ok, map, Option}
+use Rattle.std.specs.Option.{option_map}
+use Rattle.bulk_json.specs.Items.{bulk_of}
+use Rattle.bulk_json.specs.declared.items.Item.{Item}
+use Rattle.edge_face.specs.Limits.{body_limit}
+use Rattle.rest_request.specs.Asked.{IsAsked}
 use Rattle.rest_request.specs.Message.{Message}
-use Rattle.stream_catalog.specs.Plain.{PlainIndex}
-use Rattle.stream_catalog.specs.Ways.{plain_way, seen_way, see_index}
+use Rattle.row_cells.specs.Each.{Each}
+use Rattle.row_cells.specs.Joining.{FieldsAgree}
+use Rattle.stream_catalog.specs.Plain.{PlainIndex, PlainCatalog}
+use Rattle.stream_catalog.specs.Sound.{IsSoundCatalog}
+use Rattle.stream_catalog.specs.Ways.{plain_way, seen_way, see_index, see_catalog}
+use Rattle.stream_catalog.specs.WellNamed.{IsWellNamed}
 use Rattle.time_text.specs.Instant.{IsInstant}
+use Rattle.tsds_service.specs.Bulk.{outcomes_of, after_first}
 use Rattle.tsds_service.specs.Machine.{Machine, empty_machine, see, unit, units, IsSound, IsSeen}
-use Rattle.tsds_service.specs.Questions.{Asking, samples_of}
+use Rattle.tsds_service.specs.Messages.{see_told, message_told, moment_told}
+use Rattle.tsds_service.specs.Questions.{Asking, samples_of, target_of}
 use Rattle.tsds_service.specs.Step.{see_stepped, step}
+use Rattle.tsds_service.specs.Turns.{Turn, Standing, see_standing, replies, behind, last_written, IsTurn}
 
 -- what is seen of a sound machine is sound, and seen again itself
 abbrev pub SeenAgain : Type 0
@@ -30,6 +41,24 @@ StepsStand = (asking : Asking) (m : Machine) (message : Message) (now : ℤ) →
 
 abbrev pub UnitsStand : Type 0
 UnitsStand = (m : Machine) → IsSeen m → unit seen_way m ≡ see (unit plain_way m)
+
+-- the indices that a name stands for map no path in two ways, so that their fields join
+abbrev pub TargetsAgree : Type 0
+TargetsAgree = (m : Machine) (name : List ℕ) (is : List PlainIndex) → IsSound m → target_of m.catalog name ≡ Some is →
+    Each (λ i. Each (λ j. FieldsAgree i.facts.mapping.schema.fields j.facts.mapping.schema.fields) is) is
+
+-- ---- the first items of a bulk request
+
+-- after the first k of a body's items both have told the same outcomes, and what is seen is left as what is seen of the catalogue,
+-- which is left sound, with well-formed names
+pub record FirstAlike (c : PlainCatalog) (k : ℕ) (items : List Item) : Type 0 where
+  pub told : outcomes_of seen_way (see_catalog c) (take k items) ≡ outcomes_of plain_way c (take k items)
+  pub left : after_first seen_way (see_catalog c) k items ≡ see_catalog (after_first plain_way c k items)
+  pub sound : IsSoundCatalog (after_first plain_way c k items)
+  pub names : IsWellNamed (after_first plain_way c k items)
+
+abbrev pub FirstsRefine : Type 0
+FirstsRefine = (m : Machine) (path : Option (List ℕ)) (body : List ℕ) (items : List Item) (k : ℕ) → IsSound m → length body ≤ body_limit → bulk_of path body ≡ Ok items → FirstAlike m.catalog k items
 
 -- ---- machines stay sound
 
@@ -56,29 +85,55 @@ ManyUnitsRefine = (n : ℕ) (m : Machine) → IsSound m → units seen_way n (se
 abbrev pub ManyUnitsStand : Type 0
 ManyUnitsStand = (n : ℕ) (m : Machine) → IsSeen m → units seen_way n m ≡ see (units plain_way n m)
 
--- neither a template nor documents are put
-abbrev pub PutsNeither : Message → Type 0
-PutsNeither (asked.put_template name body) = ⊥
-PutsNeither (asked.put_stream name) = Unit {0}
-PutsNeither (asked.get_stream name) = Unit {0}
-PutsNeither (asked.delete_stream name) = Unit {0}
-PutsNeither (asked.bulk path body) = ⊥
-PutsNeither (asked.rollover name) = Unit {0}
-PutsNeither (asked.block n) = Unit {0}
-PutsNeither (asked.downsample source target body) = Unit {0}
-PutsNeither (asked.modify body) = Unit {0}
-PutsNeither (asked.delete_index n) = Unit {0}
-PutsNeither (asked.put_lifecycle name body) = Unit {0}
-PutsNeither asked.run_lifecycle = Unit {0}
-PutsNeither asked.tasks = Unit {0}
-PutsNeither (asked.search_rows name body) = Unit {0}
-PutsNeither (asked.count_rows name body) = Unit {0}
-PutsNeither (asked.get_doc n id) = Unit {0}
-PutsNeither asked.flush = Unit {0}
-
--- a step at an instant leaves a sound machine sound, where it puts neither
+-- a request that is read, at an instant, leaves a sound machine sound
 abbrev pub StepsKeepSound : Type 0
-StepsKeepSound = (asking : Asking) (m : Machine) (message : Message) (now : ℤ) → IsSound m → IsInstant now → PutsNeither message → IsSound (step asking plain_way m message now).machine
+StepsKeepSound = (asking : Asking) (m : Machine) (message : Message) (now : ℤ) → IsSound m → IsAsked message → IsInstant now → IsSound (step asking plain_way m message now).machine
 
 abbrev pub StepsKeepSeen : Type 0
-StepsKeepSeen = (asking : Asking) (m : Machine) (message : Message) (now : ℤ) → IsSeen m → IsInstant now → PutsNeither message → IsSeen (step asking seen_way m message now).machine
+StepsKeepSeen = (asking : Asking) (m : Machine) (message : Message) (now : ℤ) → IsSeen m → IsAsked message → IsInstant now → IsSeen (step asking seen_way m message now).machine
+
+-- ---- a message
+
+-- what is seen of a machine is told what the machine is told, and its unit; both are left sound
+pub record MessageAlike (asking : Asking) (m : Machine) (now : ℤ) (method target body : List ℕ) : Type 0 where
+  pub told : message_told asking seen_way (see m) now method target body ≡ see_told (message_told asking plain_way m now method target body)
+  pub stepped : IsSound (message_told asking plain_way m now method target body).stepped
+  pub after : IsSound (message_told asking plain_way m now method target body).after
+
+abbrev pub MessagesRefine : Type 0
+MessagesRefine = (asking : Asking) (m : Machine) (now : ℤ) (method target body : List ℕ) → IsSound m → IsInstant now → length body ≤ body_limit → MessageAlike asking m now method target body
+
+-- a moment line leaves an instant
+abbrev pub MomentsAreInstants : Type 0
+MomentsAreInstants = (now : ℤ) (text : List ℕ) → IsInstant now → IsInstant (moment_told now text).now
+
+-- ---- any list of requests, moment lines and units
+
+pub record IsSoundStanding (s : Standing) : Type 0 where
+  pub machine : IsSound s.machine
+  pub present : IsInstant s.present
+
+-- what the code holds between two turns
+pub record IsSeenStanding (s : Standing) : Type 0 where
+  pub machine : IsSeen s.machine
+  pub present : IsInstant s.present
+
+-- what is seen replies what the plain machine replies, is left as what is seen of it, and writes the records of what is seen of
+-- the machine whose records it writes; and that one is left sound
+pub record TurnAlike (asking : Asking) (s : Standing) (ts : List Turn) (before : Option Machine) : Type 0 where
+  pub told : replies asking seen_way (see_standing s) ts ≡ replies asking plain_way s ts
+  pub left : behind asking seen_way (see_standing s) ts ≡ see_standing (behind asking plain_way s ts)
+  pub written : last_written asking seen_way (option_map see before) (see_standing s) ts ≡ option_map see (last_written asking plain_way before s ts)
+  pub sound : IsSoundStanding (behind asking plain_way s ts)
+
+abbrev pub TurnsRefine : Type 0
+TurnsRefine = (asking : Asking) (s : Standing) (ts : List Turn) (before : Option Machine) → IsSoundStanding s → Each IsTurn ts → TurnAlike asking s ts before
+
+-- what the code holds replies as the plain machine that begins as it, and is left as what is seen of that one
+pub record TurnStands (asking : Asking) (s : Standing) (ts : List Turn) : Type 0 where
+  pub told : replies asking seen_way s ts ≡ replies asking plain_way s ts
+  pub left : behind asking seen_way s ts ≡ see_standing (behind asking plain_way s ts)
+  pub seen : IsSeenStanding (behind asking seen_way s ts)
+
+abbrev pub TurnsStand : Type 0
+TurnsStand = (asking : Asking) (s : Standing) (ts : List Turn) → IsSeenStanding s → Each IsTurn ts → TurnStands asking s ts

@@ -6,5 +6,6 @@ pub mod Bodies
 pub mod Replies
 pub mod Step
 pub mod Messages
+pub mod Turns
 pub mod Laws
 pub mod Examples

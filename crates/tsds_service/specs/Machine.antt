@@ -4,6 +4,7 @@ use Rattle.time_text.specs.Instant.{IsInstant}
 use Rattle.stream_catalog.specs.Plain.{PlainCatalog}
 use Rattle.stream_catalog.specs.Sound.{IsSoundCatalog}
 use Rattle.stream_catalog.specs.Units.{unit_of}
+use Rattle.stream_catalog.specs.WellNamed.{IsWellNamed}
 use Rattle.stream_catalog.specs.Ways.{Way, see_catalog}
 
 pub record Machine : Type 0 where
@@ -31,6 +32,7 @@ units way (suc n) m = units way n (unit way m)
 pub record IsSound (m : Machine) : Type 0 where
   pub catalog : IsSoundCatalog m.catalog
   pub now : IsInstant m.now
+  pub names : IsWellNamed m.catalog
 
 -- what the code holds: a sound machine that is seen again itself
 pub record IsSeen (m : Machine) : Type 0 where

@@ -6,7 +6,7 @@ use Rattle.rest_request.specs.declared.request.RequestError.{RequestError}
 use Rattle.stream_catalog.specs.Ways.{Way}
 use Rattle.time_text.specs.Instant.{instant_of}
 use Rattle.tsds_service.specs.Causes.{refused, request_cause, bad_moment}
-use Rattle.tsds_service.specs.Machine.{Machine, unit}
+use Rattle.tsds_service.specs.Machine.{Machine, see, unit}
 use Rattle.tsds_service.specs.Questions.{Asking}
 use Rattle.tsds_service.specs.Step.{Stepped, step}
 use Rattle.tsds_service.specs.declared.reply.Reply.{Reply}
@@ -17,6 +17,9 @@ pub record Told : Type 0 where
   pub stepped : Machine
   pub after : Machine
   pub wrote : Bool
+
+abbrev pub see_told : Told → Told
+see_told t = record t { stepped = see t.stepped; after = see t.after }
 
 abbrev pub told_of : Way → Stepped → Told
 told_of way s = record { reply = s.reply; stepped = s.machine; after = unit way s.machine; wrote = s.wrote }

@@ -1,15 +1,19 @@
 //! The laws that tie a plain machine to what is seen of it, for crates above.
 ghost use Rattle.tsds_service.specs.Laws.{SamplesStay, SeenAgain, StepsRefine, StepsStand, UnitsRefine, UnitsStand};
 ghost use Rattle.tsds_service.specs.Laws.{EmptyIsSeen, ManyUnitsKeepSeen, ManyUnitsKeepSound, ManyUnitsRefine, ManyUnitsStand, StepsKeepSeen, StepsKeepSound, UnitsKeepSeen, UnitsKeepSound};
+ghost use Rattle.tsds_service.specs.Laws.{FirstsRefine, MessagesRefine, MomentsAreInstants, TargetsAgree, TurnsRefine, TurnsStand};
 
 use stream_catalog::{
-    changes_go_through, changes_keep_sound, indices_are_sound, seen_again, tests_stay,
+    changes_go_through, changes_keep_sound, indices_are_sound, names_keep, seen_again, tests_stay,
 };
+use synthetic_source::cells_of_documents_fit;
+use ts_mapping::bodies_are_templates;
 
 /// What is seen of a sound machine is sound, and seen again itself.
 pub fn machines_are_seen()
     ensures { SeenAgain }
 {
+    names_keep();
     seen_again();
 }
 
@@ -17,6 +21,13 @@ pub fn machines_are_seen()
 pub fn samples_stay()
     ensures { SamplesStay }
 {}
+
+/// The indices that a name stands for map no path in two ways.
+pub fn targets_agree()
+    ensures { TargetsAgree }
+{
+    indices_are_sound();
+}
 
 /// The step of what is seen of a sound machine is what is seen of its step, and has the same reply; so is its unit.
 pub fn steps_refine()
@@ -48,6 +59,7 @@ pub fn units_keep()
     ensures sound { UnitsKeepSound }
     ensures seen { UnitsKeepSeen }
 {
+    names_keep();
     changes_keep_sound();
     machines_are_seen();
     steps_stand();
@@ -64,12 +76,53 @@ pub fn many_units()
     steps_refine();
 }
 
-/// A step that puts neither a template nor documents leaves a sound machine sound, and one that is seen again itself so too.
+/// After the first items of a bulk request, however many, both have told the same outcomes, and what is seen is left as what is
+/// seen of the catalogue, which is sound.
+pub fn first_items()
+    ensures { FirstsRefine }
+{
+    bodies_are_templates();
+    cells_of_documents_fit();
+    tests_stay();
+    indices_are_sound();
+    changes_go_through();
+    changes_keep_sound();
+    names_keep();
+}
+
+/// A step of a request that is read leaves a sound machine sound, and one that is seen again itself so too.
 pub fn steps_keep()
     ensures sound { StepsKeepSound }
     ensures seen { StepsKeepSeen }
 {
+    names_keep();
+    bodies_are_templates();
+    cells_of_documents_fit();
+    indices_are_sound();
     changes_keep_sound();
     machines_are_seen();
     steps_stand();
+}
+
+/// A message and its unit are told alike, and leave a sound machine sound; a moment line leaves an instant.
+pub fn messages()
+    ensures refine { MessagesRefine }
+    ensures moments { MomentsAreInstants }
+{
+    machines_are_seen();
+    steps_refine();
+    steps_keep();
+    units_keep();
+}
+
+/// Over any list of requests, moment lines and units, what is seen of a sound machine replies what the machine replies and is left
+/// as what is seen of what the machine is left as, which is sound. What code holds does so too, and is left seen again itself.
+pub fn turns()
+    ensures refine { TurnsRefine }
+    ensures stand { TurnsStand }
+{
+    machines_are_seen();
+    steps_refine();
+    steps_keep();
+    units_keep();
 }

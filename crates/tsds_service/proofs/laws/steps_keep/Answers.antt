@@ -12,6 +12,12 @@ returns-clause-sound c = steps_keep_sound (record {
   rollovers = c.changes_keep_sound.ensures.rollovers;
   moves = c.changes_keep_sound.ensures.moves;
   runs = c.changes_keep_sound.ensures.runs;
+  templates = c.changes_keep_sound.ensures.templates;
+  puts = c.changes_keep_sound.ensures.puts;
+  names = c.names_keep.ensures;
+  held = c.indices_are_sound.ensures.held;
+  bodies = c.bodies_are_templates.ensures;
+  cells = c.cells_of_documents_fit.ensures;
 })
 
 pub returns-clause-seen : goal.returns-clause-seen
@@ -25,4 +31,10 @@ returns-clause-seen c = steps_keep_seen (record {
   rollovers = c.changes_keep_sound.ensures.rollovers;
   moves = c.changes_keep_sound.ensures.moves;
   runs = c.changes_keep_sound.ensures.runs;
+  templates = c.changes_keep_sound.ensures.templates;
+  puts = c.changes_keep_sound.ensures.puts;
+  names = c.names_keep.ensures;
+  held = c.indices_are_sound.ensures.held;
+  bodies = c.bodies_are_templates.ensures;
+  cells = c.cells_of_documents_fit.ensures;
 }) c.machines_are_seen.ensures c.steps_stand.ensures.steps

@@ -1,0 +1,35 @@
+-- Which names stand in a catalogue.
+use Rattle.std.specs.Prelude.{ℕ, ℤ, List, IsTrue}
+use Rattle.row_cells.specs.Each.{Each}
+use Rattle.index_names.specs.Backing.{IsBackingOf}
+use Rattle.index_names.specs.Names.{is_stream_name, is_index_name}
+use Rattle.ts_mapping.specs.declared.templates.Template.{Template}
+use Rattle.stream_catalog.specs.declared.facts.TaskFacts.{TaskFacts}
+use Rattle.stream_catalog.specs.Plain.{PlainIndex, PlainStream, PlainCatalog}
+
+-- the name of a backing index of some stream, at some instant
+pub record IsOrigin (name : List ℕ) : Type 0 where
+  pub stream : List ℕ
+  pub now : ℤ
+  pub generation : ℕ
+  pub backing : IsBackingOf name stream now generation
+
+abbrev pub IsTemplateNamed : Template → Type 0
+IsTemplateNamed t = IsTrue (is_stream_name t.name)
+
+abbrev pub IsStreamNamed : PlainStream → Type 0
+IsStreamNamed s = IsTrue (is_stream_name s.facts.name)
+
+-- an index has a name of its own, and that of the backing index that it is or was folded from
+abbrev pub IsIndexNamed : PlainIndex → Type 0
+IsIndexNamed i = IsTrue (is_index_name i.facts.name) × IsOrigin i.facts.origin
+
+abbrev pub IsTaskNamed : TaskFacts → Type 0
+IsTaskNamed t = IsTrue (is_index_name t.target)
+
+-- each name is well formed, also those that running tasks are going to give
+pub record IsWellNamed (c : PlainCatalog) : Type 0 where
+  pub templates : Each IsTemplateNamed c.templates
+  pub streams : Each IsStreamNamed c.streams
+  pub indices : Each IsIndexNamed c.indices
+  pub tasks : Each IsTaskNamed c.tasks

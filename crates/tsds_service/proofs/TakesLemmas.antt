@@ -1,0 +1,214 @@
+-- The index that an item is taken by may take its row.
+use Rattle.std.specs.Prelude.{◌≡◌, ℕ, ℤ, pos, ◌≤◌, ◌≤ℤ◌, ◌<ℤ◌, int_le, int_lt, T, Bool, true, false, nat_le, List, [], ◌∷◌, length, Option, Some, None, Result, Ok, Err, option_and_then, unwrap_or, if◌then◌else◌}
+use Rattle.std.specs.Int.Signed.{lt_z_yes, le_z_yes}
+use Rattle.std.proofs.Common.{refl, ap, ◌∙◌, sym, subst, arith}
+use Rattle.std.proofs.lemmas.Int.{ints}
+use Rattle.std.proofs.lemmas.Bool.{and_parts, both_ways, leb-true}
+use Rattle.bulk_json.specs.declared.action.Action.{Action}
+use Rattle.bulk_json.specs.declared.action.Action.TheVariants.{Create, Index, Update, Delete}
+use Rattle.bulk_json.specs.declared.items.Item.{Item}
+use Rattle.json_walk.specs.CountLaws.{few_leaves}
+use Rattle.json_walk.specs.Counted.{leaf_count}
+use Rattle.json_walk.specs.Shapes.{is_object}
+use Rattle.json_walk.specs.Tree.{tree_of}
+use Rattle.rest_request.specs.Body.{tree_if_object, object_of}
+use Rattle.row_cells.specs.Each.{Each}
+use Rattle.row_cells.specs.Fitting.{CellsFit}
+use Rattle.row_cells.specs.KeyedRows.{IsShortList, IsRowOf}
+use Rattle.row_cells.specs.Limits.{longest_key, longest_list}
+use Rattle.row_cells.specs.Mapped.{HaveKey, is_routed, series_bytes}
+use Rattle.row_cells.specs.RowLists.{has_place}
+use Rattle.row_cells.specs.declared.rows.Cell.{Cell}
+use Rattle.row_cells.specs.declared.rows.Row.{Row}
+use Rattle.row_cells.specs.declared.schemas.Schema.{Schema}
+use Rattle.serde_json.specs.Data.{Data}
+use Rattle.series_id.specs.Ids.{id_of}
+use Rattle.series_id.specs.Keys.{keyed}
+use Rattle.series_id.specs.declared.keys.KeyError.{KeyError}
+use Rattle.series_id.specs.declared.keys.KeyError.TheVariants.{NoRouting, KeyTooLong, NoMemory}
+use Rattle.stream_catalog.specs.Laws.{FoundIsHeld, NamesKeep, TakesRow, PutsKeepSound}
+use Rattle.stream_catalog.specs.Lists.{with_found, stream_named, index_named}
+use Rattle.stream_catalog.specs.Plain.{PlainIndex, PlainStream, PlainCatalog, facts_of}
+use Rattle.stream_catalog.specs.Puts.{has_time, MayPut, is_full, picked_by}
+use Rattle.stream_catalog.specs.Sound.{IsKind, IsSoundCatalog}
+use Rattle.stream_catalog.specs.Ways.{plain_way}
+use Rattle.stream_catalog.specs.WellNamed.{IsWellNamed}
+use Rattle.stream_catalog.specs.declared.answers.PickError.{PickError}
+use Rattle.stream_catalog.specs.declared.answers.PickError.TheVariants.{NoWindow, Blocked}
+use Rattle.synthetic_source.specs.Document.{document_cells}
+use Rattle.synthetic_source.specs.Faults.{time_fault, time_of}
+use Rattle.synthetic_source.specs.Laws.{CellsOfDocumentsFit}
+use Rattle.synthetic_source.specs.declared.errors.DocKind.{DocKind}
+use Rattle.time_text.specs.Instant.{IsInstant}
+use Rattle.time_text.specs.declared.intervals.Interval.{Interval}
+use Rattle.tsds_service.specs.Bulk.{Outcome, taken, barred, by_place, by_key, by_cells, by_index, by_pick, by_time, by_stream, by_action, item_outcome, after_outcome, after_item, after_items}
+use Rattle.tsds_service.specs.Causes.{conflict, full, outside, no_stream, no_object}
+use Rattle.tsds_service.proofs.ItemLemmas.{barred_not, taken_name, taken_row, some_is, none_not_some}
+use Rattle.tsds_service.proofs.PickLemmas.{picked_open, picked_within}
+use Rattle.tsds_service.proofs.SourceLemmas.{IsSourceWithin, AreSourcesWithin}
+
+-- ---- numbers
+
+from_le : (a b : ℤ) → int_le a b ≡ true → a ≤ℤ b
+from_le a b is = le_z_yes {a = a} {b = b} (subst T (sym is) tt)
+
+from_lt : (a b : ℤ) → int_lt a b ≡ true → a <ℤ b
+from_lt a b is = lt_z_yes {a = a} {b = b} (subst T (sym is) tt)
+
+instant_between : (start end t : ℤ) → IsInstant start → IsInstant end → start ≤ℤ t → t <ℤ end → IsInstant t
+instant_between start end t begins ends above below = (omega (arith, ints, begins.0, above), omega (arith, ints, ends.1, below))
+
+-- ---- keys
+
+key_err : {e : KeyError} {k : List ℕ} → Err e ≡ Ok k → ⊥
+key_err e = cc
+
+abbrev keyed_as : List ℕ → Result (List ℕ) KeyError
+keyed_as k = Ok k
+
+ok_key : {k l : List ℕ} → keyed_as k ≡ keyed_as l → k ≡ l
+ok_key e = cc
+
+keyed_is : (schema : Schema) (cells : List Cell) (k : List ℕ) → keyed schema cells ≡ Ok k → HaveKey schema cells × (k ≡ series_bytes schema cells)
+keyed_is schema cells k is = by_tests (is_routed schema cells) (nat_le (length (series_bytes schema cells)) longest_key) refl refl is
+  where
+    by_tests : (a b : Bool) → is_routed schema cells ≡ a → nat_le (length (series_bytes schema cells)) longest_key ≡ b
+        → (if a then (if b then Ok (series_bytes schema cells) else Err (KeyTooLong (length (series_bytes schema cells)))) else Err NoRouting) ≡ Ok k
+        → HaveKey schema cells × (k ≡ series_bytes schema cells)
+    by_tests true true routed short is = (record { routed = routed; short = leb-true (length (series_bytes schema cells)) longest_key short }, sym (ok_key is))
+    by_tests true false routed short is = absurd (key_err is)
+    by_tests false b routed short is = absurd (key_err is)
+
+-- ---- what is held of an index that is there
+
+raw_schema : (interval : Option Interval) (blocked : Bool) (schema : Schema) → IsKind interval blocked schema → blocked ≡ false → schema.folded ≡ false
+raw_schema None blocked schema kind takes = kind.0
+raw_schema (Some by) blocked schema kind takes = absurd (both_ways blocked takes kind.1)
+
+-- ---- the row of an item
+
+module _ (held_there : FoundIsHeld) (fit : CellsOfDocumentsFit) (c : PlainCatalog) (sound : IsSoundCatalog c) (n : List ℕ) (row : Row) where
+  place_takes : (m : List ℕ) (i : PlainIndex) (r : Row) → index_named m c.indices ≡ Some i → i.facts.blocked ≡ false → has_time i.facts r.time ≡ true → IsRowOf i.facts.mapping.schema r
+      → by_place m i r ≡ taken n row → TakesRow c n row
+  place_takes m i r found takes within row_of is = by_tests (has_place r.key r.time i.rows) (is_full i.rows) refl refl is
+    where
+      by_tests : (a b : Bool) → has_place r.key r.time i.rows ≡ a → is_full i.rows ≡ b
+          → (if a then barred (conflict (id_of r.key r.time)) else (if b then barred (full m) else taken m r)) ≡ taken n row → TakesRow c n row
+      by_tests true b place room is = absurd (barred_not is)
+      by_tests false true place room is = absurd (barred_not is)
+      by_tests false false place room is = λ j there.
+          let same : i ≡ j = some_is (sym found ∙ (ap (λ k. index_named k c.indices) (taken_name is) ∙ there)) in
+          subst (λ (k : PlainIndex). MayPut k.facts k.rows row) same
+          (subst (λ (x : Row). MayPut i.facts i.rows x) (taken_row is) (record { takes = takes; within = within; free = place; room = room; row_of = row_of }))
+
+  key_takes : (m : List ℕ) (i : PlainIndex) (time : ℤ) (cells : List Cell) (key : Result (List ℕ) KeyError) → index_named m c.indices ≡ Some i → i.facts.blocked ≡ false → has_time i.facts time ≡ true
+      → CellsFit false i.facts.mapping.schema.rises 1 i.facts.mapping.schema.fields cells × Each IsShortList cells
+      → keyed i.facts.mapping.schema cells ≡ key → by_key m i time cells key ≡ taken n row → TakesRow c n row
+  key_takes m i time cells (Ok key) found takes within fits made is =
+      let schema = i.facts.mapping.schema in
+      let held = held_there c m i sound found in
+      let raw = raw_schema i.facts.interval i.facts.blocked schema held.kind takes in
+      let both = keyed_is schema cells key made in
+      let window = and_parts (int_le i.facts.start time) (int_lt time i.facts.end) within in
+      place_takes m i (record { key = key; time = time; count = 1; cells = cells }) found takes within
+      (record {
+        fits = record {
+          cells_fit = subst (λ b. CellsFit b schema.rises 1 schema.fields cells) (sym raw) fits.0;
+          key_is = both.1;
+          instant = instant_between i.facts.start i.facts.end time held.begins held.ends (from_le i.facts.start time window.0) (from_lt time i.facts.end window.1);
+          counted = omega arith;
+          count_within = omega arith;
+          alone = λ is_raw. refl;
+        };
+        keyed = both.0;
+        short = fits.1;
+      }) is
+  key_takes m i time cells (Err NoRouting) found takes within fits made is = absurd (barred_not is)
+  key_takes m i time cells (Err (KeyTooLong bytes)) found takes within fits made is = absurd (barred_not is)
+  key_takes m i time cells (Err NoMemory) found takes within fits made is = absurd (barred_not is)
+
+  cells_take : (m : List ℕ) (i : PlainIndex) (time : ℤ) (d : Data) (cells : Result (List Cell) (DocKind × List ℕ)) → leaf_count d ≤ longest_list → index_named m c.indices ≡ Some i →
+      i.facts.blocked ≡ false
+      → has_time i.facts time ≡ true → document_cells i.facts.mapping.schema i.facts.mapping.strict d ≡ cells → by_cells m i time cells ≡ taken n row → TakesRow c n row
+  cells_take m i time d (Ok cells) few found takes within made is =
+      let held = held_there c m i sound found in
+      key_takes m i time cells (keyed i.facts.mapping.schema cells) found takes within (fit i.facts.mapping.schema i.facts.mapping.strict d cells held.mapping.schema few made) refl is
+  cells_take m i time d (Err fault) few found takes within made is = absurd (barred_not is)
+
+  pick_takes : (s : PlainStream) (time : ℤ) (d : Data) (pick : Result (List ℕ) PickError) → leaf_count d ≤ longest_list → picked_by (facts_of c) s time ≡ pick →
+      by_pick c s time d pick ≡ taken n row → TakesRow c n row
+  pick_takes s time d (Err NoWindow) few picked is = absurd (barred_not is)
+  pick_takes s time d (Err Blocked) few picked is = absurd (barred_not is)
+  pick_takes s time d (Ok m) few picked is = by_found (index_named m c.indices) refl is
+    where
+      by_found : (o : Option PlainIndex) → index_named m c.indices ≡ o → with_found o (barred (outside time)) (λ i. by_index m i time d) ≡ taken n row → TakesRow c n row
+      by_found None found is = absurd (barred_not is)
+      by_found (Some i) found is =
+          cells_take m i time d (document_cells i.facts.mapping.schema i.facts.mapping.strict d) few found (picked_open c s time m i picked found) (picked_within c s time m i picked found) refl is
+
+  fault_takes : (s : PlainStream) (d : Data) (fault : Option DocKind) → leaf_count d ≤ longest_list
+      → by_time fault (unwrap_or (time_of d) (pos 0)) (λ time. by_pick c s time d (picked_by (facts_of c) s time)) ≡ taken n row → TakesRow c n row
+  fault_takes s d (Some kind) few is = absurd (barred_not is)
+  fault_takes s d None few is = pick_takes s (unwrap_or (time_of d) (pos 0)) d (picked_by (facts_of c) s (unwrap_or (time_of d) (pos 0))) few refl is
+
+  -- the tree of a source has few enough leaves
+  few_in : (source : List ℕ) (d : Data) → length source ≤ longest_list → object_of source ≡ Some d → leaf_count d ≤ longest_list
+  unfolding object_of
+  few_in source d short is = by_tree (tree_of source) refl is
+    where
+      by_test : (e : Data) (b : Bool) → (if b then Some e else None) ≡ Some d → e ≡ d
+      by_test e true is = some_is is
+      by_test e false is = absurd (none_not_some is)
+
+      by_tree : (o : Option Data) → tree_of source ≡ o → option_and_then tree_if_object o ≡ Some d → leaf_count d ≤ longest_list
+      by_tree None read is = absurd (none_not_some is)
+      by_tree (Some e) read is =
+          let few = few_leaves source d (read ∙ ap (λ x. Some x) (by_test e (is_object e) is)) in
+          omega (arith, few, short)
+
+  stream_takes : (name : List ℕ) (source : Option (List ℕ)) → IsSourceWithin longest_list source → by_stream c name source ≡ taken n row → TakesRow c n row
+  stream_takes name None short is = by_found (stream_named name c.streams) is
+    where
+      by_found : (o : Option PlainStream) → with_found o (barred (no_stream name)) (λ s. barred no_object) ≡ taken n row → TakesRow c n row
+      by_found None is = absurd (barred_not is)
+      by_found (Some s) is = absurd (barred_not is)
+  stream_takes name (Some source) short is = by_found (stream_named name c.streams) (object_of source) refl is
+    where
+      by_found : (o : Option PlainStream) (tree : Option Data) → object_of source ≡ tree →
+          with_found o (barred (no_stream name)) (λ s. with_found tree (barred no_object) (λ d.
+          by_time (time_fault d) (unwrap_or (time_of d) (pos 0)) (λ time. by_pick c s time d (picked_by (facts_of c) s time)))) ≡ taken n row → TakesRow c n row
+      by_found None tree read is = absurd (barred_not is)
+      by_found (Some s) None read is = absurd (barred_not is)
+      by_found (Some s) (Some d) read is = fault_takes s d (time_fault d) (few_in source d short read) is
+
+  action_takes : (action : Action) (name : List ℕ) (source : Option (List ℕ)) → IsSourceWithin longest_list source → by_action c action name source ≡ taken n row → TakesRow c n row
+  action_takes Create name source short is = stream_takes name source short is
+  action_takes Index name source short is = absurd (barred_not is)
+  action_takes Update name source short is = absurd (barred_not is)
+  action_takes Delete name source short is = absurd (barred_not is)
+
+  pub item_takes : (item : Item) → IsSourceWithin longest_list item.source → item_outcome c item ≡ taken n row → TakesRow c n row
+  unfolding item_outcome
+  item_takes item short is = action_takes item.action item.stream item.source short is
+
+-- ---- items one after another
+
+module _ (held_there : FoundIsHeld) (fit : CellsOfDocumentsFit) (puts : PutsKeepSound) where
+  item_sound : (c : PlainCatalog) (item : Item) → IsSoundCatalog c → IsSourceWithin longest_list item.source → IsSoundCatalog (after_item plain_way c item)
+  item_sound c item sound short = by_outcome (item_outcome c item) refl
+    where
+      by_outcome : (o : Outcome) → item_outcome c item ≡ o → IsSoundCatalog (after_outcome plain_way c o)
+      by_outcome (taken n row) is = puts c n row sound (item_takes held_there fit c sound n row item short is)
+      by_outcome (barred cause) is = sound
+
+  pub items_sound : (c : PlainCatalog) (items : List Item) → IsSoundCatalog c → AreSourcesWithin longest_list items → IsSoundCatalog (after_items plain_way c items)
+  items_sound c [] sound short = sound
+  items_sound c (item ∷ items) sound short = items_sound (after_item plain_way c item) items (item_sound c item sound short.0) short.1
+
+pub items_named : NamesKeep → (c : PlainCatalog) (items : List Item) → IsWellNamed c → IsWellNamed (after_items plain_way c items)
+items_named names c [] named = named
+items_named names c (item ∷ items) named = items_named names (after_item plain_way c item) items (by_outcome (item_outcome c item))
+  where
+    by_outcome : (o : Outcome) → IsWellNamed (after_outcome plain_way c o)
+    by_outcome (taken n row) = names.puts plain_way c n row named
+    by_outcome (barred cause) = named

@@ -1,0 +1,168 @@
+-- Turns, one after another.
+use Rattle.std.specs.Prelude.{◌≡◌, ◌≤◌, ℕ, ℤ, pos, int_le, T, ◌&&◌, ◌≤ℤ◌, Bool, true, false, List, [], ◌∷◌, length, Option, Some, None, Result, Ok, Err, option_and_then, if◌then◌else◌}
+use Rattle.std.specs.Int.Signed.{le_z_yes}
+use Rattle.std.specs.Option.{option_map, option_or}
+use Rattle.std.proofs.Common.{refl, ap, ◌∙◌, sym, subst}
+use Rattle.std.proofs.lemmas.Bool.{and_parts}
+use Rattle.edge_face.specs.Limits.{body_limit, last_instant}
+use Rattle.rest_request.specs.AskedLaws.{asked_so}
+use Rattle.rest_request.specs.Message.{Message}
+use Rattle.rest_request.specs.Table.{request_of}
+use Rattle.rest_request.specs.declared.request.RequestError.{RequestError}
+use Rattle.row_cells.specs.Each.{Each}
+use Rattle.stream_catalog.specs.Ways.{plain_way, seen_way}
+use Rattle.time_text.specs.Instant.{IsInstant, in_range, instant_of, written_of}
+use Rattle.tsds_service.specs.Causes.{refused, request_cause}
+use Rattle.tsds_service.specs.Laws.{SeenAgain, StepsRefine, UnitsRefine, StepsKeepSound, UnitsKeepSound, IsSoundStanding, IsSeenStanding, MessagesRefine, MomentsAreInstants, TurnAlike, TurnsRefine, TurnStands, TurnsStand}
+use Rattle.tsds_service.specs.Machine.{Machine, see, IsSound}
+use Rattle.tsds_service.specs.Messages.{Told, see_told, told_of, told_by, message_told, moment_by, moment_told}
+use Rattle.tsds_service.specs.Questions.{Asking}
+use Rattle.tsds_service.specs.Step.{Stepped, see_stepped, step}
+use Rattle.tsds_service.specs.Turns.{Turn, asks, sends, says, works, Standing, see_standing, Turned, see_turned, written_if, by_step, by_message, turned, with_reply, replies, behind, last_written, IsTurn}
+
+none_not_some : {A : Type 0} {a : A} → None ≡ Some a → ⊥
+none_not_some e = cc
+
+some_is : {A : Type 0} {a b : A} → Some a ≡ Some b → a ≡ b
+some_is e = cc
+
+-- ---- moments that are read are instants
+
+from_le : (a b : ℤ) → int_le a b ≡ true → a ≤ℤ b
+from_le a b is = le_z_yes {a = a} {b = b} (subst T (sym is) tt)
+
+in_range_instant : (z t : ℤ) → in_range z ≡ Some t → IsInstant t
+in_range_instant z t is = by_test (int_le (pos 0) z && int_le z last_instant) refl is
+  where
+    by_test : (b : Bool) → (int_le (pos 0) z && int_le z last_instant) ≡ b → (if b then Some z else None) ≡ Some t → IsInstant t
+    by_test true within is = let both = and_parts (int_le (pos 0) z) (int_le z last_instant) within in subst IsInstant (some_is is) (from_le (pos 0) z both.0, from_le z last_instant both.1)
+    by_test false within is = absurd (none_not_some is)
+
+instant_read : (text : List ℕ) (t : ℤ) → instant_of text ≡ Some t → IsInstant t
+unfolding instant_of
+instant_read text t is = by_written (written_of text) is
+  where
+    by_written : (o : Option ℤ) → option_and_then in_range o ≡ Some t → IsInstant t
+    by_written None is = absurd (none_not_some is)
+    by_written (Some z) is = in_range_instant z t is
+
+pub moment_instant : MomentsAreInstants
+moment_instant now text is_now = by_read (instant_of text) refl
+  where
+    by_test : (next : ℤ) (b : Bool) → IsInstant next → IsInstant (if b then record { reply = None; now = next } else moment_by now None).now
+    by_test next true is_next = is_next
+    by_test next false is_next = is_now
+
+    by_read : (o : Option ℤ) → instant_of text ≡ o → IsInstant (moment_by now o).now
+    by_read None read = is_now
+    by_read (Some next) read = by_test next (int_le now next) (instant_read text next read)
+
+-- ---- one turn
+
+written-see : (b : Bool) (m : Machine) → written_if b (see m) ≡ option_map see (written_if b m)
+written-see true m = refl
+written-see false m = refl
+
+by_step-see : (now : ℤ) (s : Stepped) → by_step now (see_stepped s) ≡ see_turned (by_step now s)
+by_step-see now s = ap (λ w. record { reply = Some s.reply; written = w; after = record { machine = see s.machine; present = now } }) (written-see s.wrote s.machine)
+
+by_message-see : (now : ℤ) (t : Told) → by_message now (record t { stepped = see t.stepped; after = see t.after }) ≡ see_turned (by_message now t)
+by_message-see now t = ap (λ w. record { reply = Some t.reply; written = w; after = record { machine = see t.after; present = now } }) (written-see t.wrote t.stepped)
+
+module _ (again : SeenAgain) (steps : StepsRefine) (units : UnitsRefine) (steps_keep : StepsKeepSound) (units_keep : UnitsKeepSound) (asking : Asking) where
+  -- ---- a request as it is sent
+
+  told_of-see : (s : Stepped) → IsSound s.machine → told_of seen_way (see_stepped s) ≡ see_told (told_of plain_way s)
+  told_of-see s sound = ap (λ (n : Machine). record { reply = s.reply; stepped = see s.machine; after = n; wrote = s.wrote }) (units s.machine sound)
+
+  told-see : (m : Machine) (now : ℤ) (method target body : List ℕ) (r : Result Message RequestError) → IsSound m → IsInstant now → length body ≤ body_limit → request_of method target body ≡ r →
+      told_by asking seen_way (see m) now r ≡ see_told (told_by asking plain_way m now r)
+  told-see m now method target body (Ok message) sound is_now short read =
+      ap (told_of seen_way) (steps asking m message now sound) ∙ told_of-see (step asking plain_way m message now)
+      (steps_keep asking m message now sound (asked_so method target body message read short) is_now)
+  told-see m now method target body (Err e) sound is_now short read =
+      ap (λ (n : Machine). record { reply = refused (request_cause e); stepped = see m; after = n; wrote = false }) (units m sound)
+
+  message-see : (m : Machine) (now : ℤ) (method target body : List ℕ) → IsSound m → IsInstant now → length body ≤ body_limit →
+      message_told asking seen_way (see m) now method target body ≡ see_told (message_told asking plain_way m now method target body)
+  unfolding message_told
+  message-see m now method target body sound is_now short = told-see m now method target body (request_of method target body) sound is_now short refl
+
+  told-sound : (m : Machine) (now : ℤ) (method target body : List ℕ) (r : Result Message RequestError) → IsSound m → IsInstant now → length body ≤ body_limit →
+      request_of method target body ≡ r → IsSound (told_by asking plain_way m now r).after
+  told-sound m now method target body (Ok message) sound is_now short read =
+      units_keep (step asking plain_way m message now).machine (steps_keep asking m message now sound (asked_so method target body message read short) is_now)
+  told-sound m now method target body (Err e) sound is_now short read = units_keep m sound
+
+  message-sound : (m : Machine) (now : ℤ) (method target body : List ℕ) → IsSound m → IsInstant now → length body ≤ body_limit → IsSound (message_told asking plain_way m now method target body).after
+  unfolding message_told
+  message-sound m now method target body sound is_now short = told-sound m now method target body (request_of method target body) sound is_now short refl
+
+  told-stepped : (m : Machine) (now : ℤ) (method target body : List ℕ) (r : Result Message RequestError) → IsSound m → IsInstant now → length body ≤ body_limit →
+      request_of method target body ≡ r → IsSound (told_by asking plain_way m now r).stepped
+  told-stepped m now method target body (Ok message) sound is_now short read = steps_keep asking m message now sound (asked_so method target body message read short) is_now
+  told-stepped m now method target body (Err e) sound is_now short read = sound
+
+  message-stepped : (m : Machine) (now : ℤ) (method target body : List ℕ) → IsSound m → IsInstant now → length body ≤ body_limit → IsSound (message_told asking plain_way m now method target body).stepped
+  unfolding message_told
+  message-stepped m now method target body sound is_now short = told-stepped m now method target body (request_of method target body) sound is_now short refl
+
+  -- ---- a turn
+
+  turn-see : (s : Standing) (t : Turn) → IsSoundStanding s → IsTurn t → turned asking seen_way (see_standing s) t ≡ see_turned (turned asking plain_way s t)
+  turn-see s (asks message now) sound is = ap (by_step now) (steps asking s.machine message now sound.machine) ∙ by_step-see now (step asking plain_way s.machine message now)
+  turn-see s (sends method target body) sound short =
+      ap (by_message s.present) (message-see s.machine s.present method target body sound.machine sound.present short)
+      ∙ by_message-see s.present (message_told asking plain_way s.machine s.present method target body)
+  turn-see s (says text) sound is = refl
+  turn-see s works sound is = ap (λ (n : Machine). record { reply = None; written = None; after = record s { machine = n } }) (units s.machine sound.machine)
+
+  turn-sound : (s : Standing) (t : Turn) → IsSoundStanding s → IsTurn t → IsSoundStanding (turned asking plain_way s t).after
+  turn-sound s (asks message now) sound is = record { machine = steps_keep asking s.machine message now sound.machine is.0 is.1; present = is.1 }
+  turn-sound s (sends method target body) sound short = record { machine = message-sound s.machine s.present method target body sound.machine sound.present short; present = sound.present }
+  turn-sound s (says text) sound is = record { machine = sound.machine; present = moment_instant s.present text sound.present }
+  turn-sound s works sound is = record { machine = units_keep s.machine sound.machine; present = sound.present }
+
+  -- ---- many
+
+  or-see : (o before : Option Machine) → option_or (option_map see o) (option_map see before) ≡ option_map see (option_or o before)
+  or-see None before = refl
+  or-see (Some m) before = refl
+
+  turns-alike : (s : Standing) (ts : List Turn) (before : Option Machine) → IsSoundStanding s → Each IsTurn ts → TurnAlike asking s ts before
+  turns-alike s [] before sound are = record { told = refl; left = refl; written = refl; sound = sound }
+  turns-alike s (t ∷ ts) before sound are =
+      let one = turn-see s t sound are.0 in
+      let next = (turned asking plain_way s t).after in
+      let rest = turns-alike next ts (option_or (turned asking plain_way s t).written before) (turn-sound s t sound are.0) are.1 in
+      record {
+        told = ap (λ (x : Turned). with_reply x.reply (replies asking seen_way x.after ts)) one ∙ ap (with_reply (turned asking plain_way s t).reply) rest.told;
+        left = ap (λ (x : Turned). behind asking seen_way x.after ts) one ∙ rest.left;
+        written = ap (λ (x : Turned). last_written asking seen_way (option_or x.written (option_map see before)) x.after ts) one
+            ∙ (ap (λ w. last_written asking seen_way w (see_standing next) ts) (or-see (turned asking plain_way s t).written before) ∙ rest.written);
+        sound = rest.sound;
+      }
+
+  turns-stand : (s : Standing) (ts : List Turn) → IsSeenStanding s → Each IsTurn ts → TurnStands asking s ts
+  turns-stand s ts seen are =
+      let alike = turns-alike s ts None (record { machine = seen.machine.sound; present = seen.present }) are in
+      let same : s ≡ see_standing s = ap (λ (m : Machine). record s { machine = m }) (sym seen.machine.again) in
+      let ends = ap (λ (x : Standing). behind asking seen_way x ts) same ∙ alike.left in
+      record {
+        told = ap (λ (x : Standing). replies asking seen_way x ts) same ∙ alike.told;
+        left = ends;
+        seen = subst IsSeenStanding (sym ends) (record { machine = again (behind asking plain_way s ts).machine alike.sound.machine; present = alike.sound.present });
+      }
+
+pub turns_refine : SeenAgain → StepsRefine → UnitsRefine → StepsKeepSound → UnitsKeepSound → TurnsRefine
+turns_refine again steps units steps_keep units_keep asking s ts before sound are = turns-alike again steps units steps_keep units_keep asking s ts before sound are
+
+pub turns_stand : SeenAgain → StepsRefine → UnitsRefine → StepsKeepSound → UnitsKeepSound → TurnsStand
+turns_stand again steps units steps_keep units_keep asking s ts seen are = turns-stand again steps units steps_keep units_keep asking s ts seen are
+
+pub messages_refine : SeenAgain → StepsRefine → UnitsRefine → StepsKeepSound → UnitsKeepSound → MessagesRefine
+messages_refine again steps units steps_keep units_keep asking m now method target body sound is_now short = record {
+  told = message-see again steps units steps_keep units_keep asking m now method target body sound is_now short;
+  stepped = message-stepped again steps units steps_keep units_keep asking m now method target body sound is_now short;
+  after = message-sound again steps units steps_keep units_keep asking m now method target body sound is_now short;
+}
