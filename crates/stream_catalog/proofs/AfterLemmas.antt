@@ -50,7 +50,7 @@ pub found_agree : FoundAgree
 found_agree c m n i j sound first second same =
     let fs = (facts_of c).indices in
     let row = each_found facts_name (λ k. Each (Agrees (form_of k)) (map form_of fs)) m fs i.facts (facts_there c m i first)
-        (each_of_map form_of (λ a. Each (Agrees a) (map form_of fs)) fs sound.facts.indices_agree) in
+    (each_of_map form_of (λ a. Each (Agrees a) (map form_of fs)) fs sound.facts.indices_agree) in
     each_found facts_name (λ k. Agrees (form_of i.facts) (form_of k)) n fs j.facts (facts_there c n j second) (each_of_map form_of (Agrees (form_of i.facts)) fs row) same
 
 -- ---- units
@@ -156,7 +156,7 @@ units_end c task i j key sound is found = by_last (next_done task.done series ==
 
     by_last : (b : Bool) → (next_done task.done series == series) ≡ b →
         index_named task.target (if b then swapped plain_way
-            (record c { tasks = is.rest }) task i else record c { tasks = record task { done = next_done task.done series } ∷ is.rest }).indices ≡ Some j →
+        (record c { tasks = is.rest }) task i else record c { tasks = record task { done = next_done task.done series } ∷ is.rest }).indices ≡ Some j →
         (see_index j).rows ≡ kept_rows task i ++ series_rows task i key
     by_last true last there = swaps last there
     by_last false not_last there = absurd (stays there)
@@ -197,11 +197,11 @@ rollovers_join c name now s w n none found write there = by_stream (stream_named
     by_own z same there =
         by_template (template_named s.facts.template c.templates)
         (subst (λ (y : PlainStream). index_named (next_name s now)
-            (with_found (template_named y.facts.template c.templates) c (λ t. with_found (index_named (write_name y) c.indices) c (next y t))).indices ≡ Some n) same there)
+        (with_found (template_named y.facts.template c.templates) c (λ t. with_found (index_named (write_name y) c.indices) c (next y t))).indices ≡ Some n) same there)
 
     by_stream : (o : Option PlainStream) → o ≡ Some s →
         index_named (next_name s now) (with_found o c
-            (λ z. with_found (template_named z.facts.template c.templates) c (λ t. with_found (index_named (write_name z) c.indices) c (next z t)))).indices ≡ Some n →
+        (λ z. with_found (template_named z.facts.template c.templates) c (λ t. with_found (index_named (write_name z) c.indices) c (next z t)))).indices ≡ Some n →
         n.facts.start ≡ w.facts.end
     by_stream None is there = absurd (none_not_some is)
     by_stream (Some z) is there = by_own z (some_is is) there

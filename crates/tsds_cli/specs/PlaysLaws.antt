@@ -110,8 +110,7 @@ module _ {S T : Type 0} (p : Play S) (q : Play T) (Goes : S → T → Type 0) (w
     stepped-go : (done : List Event) (next : Event) → All IsShort done → IsShort next → IsStepped p start now done next
         → GoesOn Goes now (λ n. IsStepped q (stands t start.table) n done next)
     stepped-go done next short body h =
-        let a = w.acts (after_events p start.state done) (after_events q t done) next (after-go start.state t done goes short) body in
-        (
+        let a = w.acts (after_events p start.state done) (after_events q t done) next (after-go start.state t done goes short) body in (
           (q.act (after_events q t done) next).stepped,
           subst (λ s. Goes s (q.act (after_events q t done) next).stepped) (sym h.stepped) a.stepped,
           record { stepped = refl; table = written-go (done ++ next ∷ []) (short-more done next short body) h.table },
@@ -161,8 +160,7 @@ module _ {S T : Type 0} (p : Play S) (q : Play T) (Goes : S → T → Type 0) (w
     end-goes Store script left given0 given h =
         let bodies = short-front h.done h.next h.bodies in
         let x = unmade-go h.done h.next act_error.Store bodies.0 bodies.1 h.state in
-        let a = w.acts (after_events p start.state h.done) (after_events q t h.done) h.next (after-go start.state t h.done goes bodies.0) bodies.1 in
-        (
+        let a = w.acts (after_events p start.state h.done) (after_events q t h.done) h.next (after-go start.state t h.done goes bodies.0) bodies.1 in (
           x.0,
           x.1,
           record {
@@ -180,8 +178,7 @@ module _ {S T : Type 0} (p : Play S) (q : Play T) (Goes : S → T → Type 0) (w
     end-goes Write script left given0 given h =
         let bodies = short-front h.done h.next h.bodies in
         let x = stepped-go h.done h.next bodies.0 bodies.1 h.state in
-        let a = w.acts (after_events p start.state h.done) (after_events q t h.done) h.next (after-go start.state t h.done goes bodies.0) bodies.1 in
-        (
+        let a = w.acts (after_events p start.state h.done) (after_events q t h.done) h.next (after-go start.state t h.done goes bodies.0) bodies.1 in (
           x.0,
           x.1,
           record {
