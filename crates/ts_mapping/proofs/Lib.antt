@@ -12,6 +12,9 @@ pub mod Refusals
 pub mod SchemaLemmas
 pub mod Sets
 pub mod Sound
+pub mod Shown
+pub mod ShownBody
+pub mod ShownFields
 pub mod SortedLemmas
 pub mod Steps
 pub mod Stops

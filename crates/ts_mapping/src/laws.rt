@@ -1,5 +1,5 @@
 //! Laws that calls above may cite.
-ghost use Rattle.ts_mapping.specs.Laws.{BodiesAreTemplates};
+ghost use Rattle.ts_mapping.specs.Laws.{BodiesAreTemplates, TemplatesHaveBodies};
 ghost use Rattle.ts_mapping.specs.LeastLaws.{LeastIsLeast};
 ghost use Rattle.ts_mapping.specs.ReadingLaws.{PartsOfLeavesFit, ReadingsFit};
 
@@ -11,6 +11,11 @@ pub fn least_is_least()
 /// What a body gives that nothing refuses has all that is known of templates in memory.
 pub fn bodies_are_templates()
     ensures { BodiesAreTemplates }
+{}
+
+/// A template in memory of which all that is known is that of some body that nothing refuses.
+pub fn templates_have_bodies()
+    ensures { TemplatesHaveBodies }
 {}
 
 /// What a leaf is read as at a field of a type is a value of the type, whatever the leaf.
