@@ -1,6 +1,6 @@
 -- Laws: how a run ends over one play it ends over every play that goes with it. Cited by who has a machine in memory that stands for a
 -- plain one: a run over what is held says the same of each plain machine that this stands for.
-use Rattle.std.proofs.Common.{◌≡◌, ◌∙◌, ◌⊎◌, inl, inr, ℕ, Bool, true, false, cond, List, [], ◌∷◌, ◌++◌, length, Option, None, Some, refl, ap, sym, subst}
+use Rattle.std.proofs.Common.{◌≡◌, ◌∙◌, ◌⊎◌, inl, inr, ℕ, Bool, true, false, cond, List, [], ◌∷◌, ◌++◌, Option, None, Some, refl, ap, sym, subst}
 use Rattle.std.specs.List.{concat}
 use Rattle.std.specs.Prelude.{All}
 use Rattle.std.proofs.lemmas.List.Elements.{All-head, All-tail, All-nil, All-cons, All-append}
@@ -12,8 +12,8 @@ use Rattle.tsds_cli.specs.declared.errors.RunError.{RunError}
 use Rattle.tsds_cli.specs.declared.errors.RunError.TheVariants.{NoMemory, Store, Read, Write, TooLong}
 use Rattle.tsds_cli.specs.Script.{Event, closed_of}
 use Rattle.tsds_cli.specs.Limits.{IsShort}
-use Rattle.tsds_cli.specs.Play.{Act, Play, Standing, stands, text_of, with_reply, replies, after_events, written_by, last_written, IsToldAs, IsTable, IsWrittenBy, PutAll, IsBehind}
-use Rattle.tsds_cli.specs.Ends.{Ends, EndsBy, EndsWhole, IsNear, IsStepped, IsUnmade, NextIsBroken, LastIsStepped, PutClosed, PutFront, PutUnkept, PutPart, PutFine, PutWhole}
+use Rattle.tsds_cli.specs.Play.{Act, Play, Standing, stands, text_of, with_reply, replies, after_events, written_by, last_written, IsTable, IsWrittenBy, PutAll, IsBehind}
+use Rattle.tsds_cli.specs.Ends.{Ends, EndsBy, EndsWhole, IsNear, IsStepped, IsUnmade, PutWhole}
 
 -- the same reply, the same decision to write, and states that go together
 pub record ActAlike {S T : Type 0} (Goes : S → T → Type 0) (a : Act S) (b : Act T) : Type 0 where
@@ -110,8 +110,7 @@ module _ {S T : Type 0} (p : Play S) (q : Play T) (Goes : S → T → Type 0) (w
     stepped-go : (done : List Event) (next : Event) → All IsShort done → IsShort next → IsStepped p start now done next
         → GoesOn Goes now (λ n. IsStepped q (stands t start.table) n done next)
     stepped-go done next short body h =
-        let a = w.acts (after_events p start.state done) (after_events q t done) next (after-go start.state t done goes short) body in
-        (
+        let a = w.acts (after_events p start.state done) (after_events q t done) next (after-go start.state t done goes short) body in (
           (q.act (after_events q t done) next).stepped,
           subst (λ s. Goes s (q.act (after_events q t done) next).stepped) (sym h.stepped) a.stepped,
           record { stepped = refl; table = written-go (done ++ next ∷ []) (short-more done next short body) h.table },
@@ -161,8 +160,7 @@ module _ {S T : Type 0} (p : Play S) (q : Play T) (Goes : S → T → Type 0) (w
     end-goes Store script left given0 given h =
         let bodies = short-front h.done h.next h.bodies in
         let x = unmade-go h.done h.next act_error.Store bodies.0 bodies.1 h.state in
-        let a = w.acts (after_events p start.state h.done) (after_events q t h.done) h.next (after-go start.state t h.done goes bodies.0) bodies.1 in
-        (
+        let a = w.acts (after_events p start.state h.done) (after_events q t h.done) h.next (after-go start.state t h.done goes bodies.0) bodies.1 in (
           x.0,
           x.1,
           record {
@@ -180,8 +178,7 @@ module _ {S T : Type 0} (p : Play S) (q : Play T) (Goes : S → T → Type 0) (w
     end-goes Write script left given0 given h =
         let bodies = short-front h.done h.next h.bodies in
         let x = stepped-go h.done h.next bodies.0 bodies.1 h.state in
-        let a = w.acts (after_events p start.state h.done) (after_events q t h.done) h.next (after-go start.state t h.done goes bodies.0) bodies.1 in
-        (
+        let a = w.acts (after_events p start.state h.done) (after_events q t h.done) h.next (after-go start.state t h.done goes bodies.0) bodies.1 in (
           x.0,
           x.1,
           record {
