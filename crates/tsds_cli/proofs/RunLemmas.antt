@@ -1,6 +1,6 @@
 -- A run of a script, event by event.
-use Rattle.std.proofs.Common.{◌≡◌, ◌∙◌, ℕ, suc, ◌-◌, ◌==◌, ◌&&◌, ◌||◌, ◌≤◌, ◌⊎◌, inl, inr, Bool, true, false, nat_lt, cond, List, [], ◌∷◌, ◌++◌, length, take, map, Option, None, Some, IfSome, refl, ap, sym, subst, arith, append_assoc, append-nil}
-use Rattle.std.specs.List.{filter, concat, slice_index}
+use Rattle.std.proofs.Common.{◌≡◌, ◌∙◌, ℕ, suc, ◌-◌, ◌||◌, ◌≤◌, ◌⊎◌, inl, inr, Bool, true, false, cond, List, [], ◌∷◌, ◌++◌, length, take, map, Option, None, Some, IfSome, refl, ap, sym, subst, arith, append_assoc, append-nil}
+use Rattle.std.specs.List.{filter, concat}
 use Rattle.std.specs.Option.{option_map}
 use Rattle.std.specs.Prelude.{All}
 use Rattle.std.proofs.lemmas.List.Elements.{All-append, All-cons, All-nil}
@@ -17,13 +17,13 @@ use Rattle.tsds_cli.specs.Script.{Event}
 use Rattle.tsds_cli.specs.declared.errors.RunError.{RunError}
 use Rattle.tsds_cli.specs.declared.errors.RunError.TheVariants.{Read, Write, Store, TooLong, NoMemory}
 use Rattle.tsds_cli.specs.Script.{Place, between, closed_of, events_of, closed_from, events_from, whole_lines, lines_of}
-use Rattle.tsds_cli.specs.Limits.{fine_of, is_too_long, is_over, is_long_piece, passed_from, IsShort}
+use Rattle.tsds_cli.specs.Limits.{is_too_long, is_over, is_long_piece, passed_from, IsShort}
 use Rattle.tsds_cli.specs.Ahead.{Ahead, ahead_in, ahead_of, behind, Passed, PassesHere, IsAtEnd, Stopped}
 use Rattle.edge_face.specs.Table.{Table}
 use Rattle.tsds_cli.specs.declared.errors.ActError.TheVariants as act_error
 use Rattle.tsds_cli.specs.declared.errors.ActError.{ActError}
-use Rattle.tsds_cli.specs.Play.{Play, Act, Standing, text_of, with_reply, replies, after_events, written_by, last_written, IsToldAs, IsTable, IsWrittenBy, PutAll, IsBehind, IsPast, IsRefused}
-use Rattle.tsds_cli.specs.Ends.{EndsBy, Broke, IsPut, Reached, IsFront, IsFine, IsNear, IsStepped, IsUnmade, IsCutBehind, PutFront, PutUnkept, PutPart, PutFine, PutWhole}
+use Rattle.tsds_cli.specs.Play.{Play, Act, Standing, text_of, with_reply, replies, after_events, written_by, last_written, IsToldAs, IsTable, IsWrittenBy, IsBehind, IsPast, IsRefused}
+use Rattle.tsds_cli.specs.Ends.{EndsBy, Broke, IsPut, Reached, IsFront, IsFine, IsNear, IsStepped, IsUnmade, IsCutBehind, PutFront, PutUnkept, PutPart, PutWhole}
 use Rattle.tsds_cli.proofs.PassLemmas.{passed-passed, preceded-preceded, preceded-nothing, short_piece}
 use Rattle.tsds_cli.proofs.PiecesLemmas.{not-ended}
 

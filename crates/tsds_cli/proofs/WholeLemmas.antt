@@ -1,5 +1,5 @@
 -- What a run that is done says of a told script.
-use Rattle.std.proofs.Common.{◌≡◌, ◌∙◌, ℕ, List, false, Option, None, Some, IfSome, refl, ap, sym, subst}
+use Rattle.std.proofs.Common.{◌≡◌, ◌∙◌, ℕ, List, false, Option, None, Some, IfSome, ap, sym}
 use Rattle.std.specs.List.{concat}
 use Rattle.edge_face.specs.Contents.{appended}
 use Rattle.tsds_cli.specs.Script.{events_of}

@@ -1,6 +1,6 @@
 -- Laws: how a run ends over one play it ends over every play that goes with it. Cited by who has a machine in memory that stands for a
 -- plain one: a run over what is held says the same of each plain machine that this stands for.
-use Rattle.std.proofs.Common.{◌≡◌, ◌∙◌, ◌⊎◌, inl, inr, ℕ, Bool, true, false, cond, List, [], ◌∷◌, ◌++◌, length, Option, None, Some, refl, ap, sym, subst}
+use Rattle.std.proofs.Common.{◌≡◌, ◌∙◌, ◌⊎◌, inl, inr, ℕ, Bool, true, false, cond, List, [], ◌∷◌, ◌++◌, Option, None, Some, refl, ap, sym, subst}
 use Rattle.std.specs.List.{concat}
 use Rattle.std.specs.Prelude.{All}
 use Rattle.std.proofs.lemmas.List.Elements.{All-head, All-tail, All-nil, All-cons, All-append}
@@ -12,8 +12,8 @@ use Rattle.tsds_cli.specs.declared.errors.RunError.{RunError}
 use Rattle.tsds_cli.specs.declared.errors.RunError.TheVariants.{NoMemory, Store, Read, Write, TooLong}
 use Rattle.tsds_cli.specs.Script.{Event, closed_of}
 use Rattle.tsds_cli.specs.Limits.{IsShort}
-use Rattle.tsds_cli.specs.Play.{Act, Play, Standing, stands, text_of, with_reply, replies, after_events, written_by, last_written, IsToldAs, IsTable, IsWrittenBy, PutAll, IsBehind}
-use Rattle.tsds_cli.specs.Ends.{Ends, EndsBy, EndsWhole, IsNear, IsStepped, IsUnmade, NextIsBroken, LastIsStepped, PutClosed, PutFront, PutUnkept, PutPart, PutFine, PutWhole}
+use Rattle.tsds_cli.specs.Play.{Act, Play, Standing, stands, text_of, with_reply, replies, after_events, written_by, last_written, IsTable, IsWrittenBy, PutAll, IsBehind}
+use Rattle.tsds_cli.specs.Ends.{Ends, EndsBy, EndsWhole, IsNear, IsStepped, IsUnmade, PutWhole}
 
 -- the same reply, the same decision to write, and states that go together
 pub record ActAlike {S T : Type 0} (Goes : S → T → Type 0) (a : Act S) (b : Act T) : Type 0 where
