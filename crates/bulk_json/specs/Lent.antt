@@ -1,5 +1,5 @@
 -- Items that a body lends, and what lies behind them.
-use Rattle.std.specs.Prelude.{◌≡◌, ℕ, ◌+◌, ◌<◌, ◌≤◌, ◌^◌, List, [], ◌∷◌, length, Option, Some, None, Result}
+use Rattle.std.specs.Prelude.{◌≡◌, ℕ, ◌+◌, ◌<◌, ◌≤◌, ◌^◌, List, [], ◌∷◌, length, Option, Some, None, Result, Ok, Err}
 use Rattle.std.specs.Option.{option_map}
 use Rattle.bulk_json.specs.Items.{ahead_of}
 use Rattle.bulk_json.specs.declared.errors.BulkError.{BulkError}
@@ -13,6 +13,11 @@ path_in lines = option_map (λ s. s.now) lines.path
 -- the items that are ahead, or the first fault
 abbrev pub ahead_in : BulkLines → Result (List Item) BulkError
 ahead_in lines = ahead_of (path_in lines) lines.number lines.rest.now
+
+-- the fault of some items, if they have one
+abbrev pub fault_in : Result (List Item) BulkError → Option BulkError
+fault_in (Ok items) = None
+fault_in (Err e) = Some e
 
 -- an item with its source as a list of bytes
 abbrev pub seen_item : LentItem → Item

@@ -9,7 +9,8 @@ pub fn is_blank(bytes: &[u8]) -> bool
     bytes.iter().all(|b| is_space(*b))
 }
 
-fn is_space(byte: u8) -> bool
+/// Whether the byte is JSON's white space.
+pub fn is_space(byte: u8) -> bool
     ensures { result ≡ is_space_byte byte }
 {
     byte == b' ' || byte == b'\t' || byte == b'\n' || byte == b'\r'

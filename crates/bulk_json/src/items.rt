@@ -1,8 +1,8 @@
 //! Items of a bulk body.
-ghost use Rattle.std.specs.Prelude.{◌≡◌, ◌≢◌, ◌<◌, [], ◌∷◌, length, IfOk, IfErr, IfSome, Ok, Err, MatchOption};
+ghost use Rattle.std.specs.Prelude.{◌≡◌, ◌≢◌, ◌<◌, [], ◌∷◌, length, IfOk, IfErr, IfSome, Some, Ok, Err, MatchOption};
 ghost use Rattle.std.specs.Option.{option_map};
 ghost use Rattle.bulk_json.specs.Items.{bulk_of, onto, ahead_of};
-ghost use Rattle.bulk_json.specs.Lent.{ahead_in, path_in, lent, seen_item, HasRoom, IsBehind};
+ghost use Rattle.bulk_json.specs.Lent.{ahead_in, fault_in, path_in, lent, seen_item, HasRoom, IsBehind};
 ghost use Rattle.bulk_json.specs.Sound.{IsItem, AreItems, IsPath};
 
 use crate::action::{Action, read_action};
@@ -82,6 +82,34 @@ impl<'a> BulkLines<'a> {
             lines = ahead;
         }
         Ok(None)
+    }
+
+    /// The fault that is ahead, if there is one. Where there is none, all items can be had one after the other, so long as there
+    /// is memory. Sources aren't looked at, and nothing is kept.
+    pub fn fault_ahead(self, alloc: Global) -> Result<Option<BulkError>, NoMemory>
+        requires few { HasRoom self }
+        ensures { IfOk result (λ found. found ≡ fault_in (ahead_in self.entry)) }
+    {
+        let mut lines = self;
+        loop {
+            match lines.next(alloc) {
+                Ok(Some(next)) => lines = next.ahead,
+                Ok(None) => return Ok(None),
+                Err(error) => return fault_or_memory(error),
+            }
+        }
+    }
+}
+
+/// The error as a fault of a body, if it is one.
+fn fault_or_memory(error: BulkError) -> Result<Option<BulkError>, NoMemory>
+    ensures fault { IfOk result (λ found. (found ≡ Some error) × (error ≢ BulkError.NoMemory)) }
+{
+    match error {
+        BulkError::BadAction { line } => Ok(Some(BulkError::BadAction { line })),
+        BulkError::MissingSource { line } => Ok(Some(BulkError::MissingSource { line })),
+        BulkError::Empty => Ok(Some(BulkError::Empty)),
+        BulkError::NoMemory => Err(NoMemory),
     }
 }
 

@@ -1,4 +1,5 @@
 pub mod Agrees
+pub mod Bodies
 pub mod Deep
 pub mod Digits
 pub mod Known
@@ -11,6 +12,9 @@ pub mod Refusals
 pub mod SchemaLemmas
 pub mod Sets
 pub mod Sound
+pub mod Shown
+pub mod ShownBody
+pub mod ShownFields
 pub mod SortedLemmas
 pub mod Steps
 pub mod Stops

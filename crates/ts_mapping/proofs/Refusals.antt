@@ -21,7 +21,7 @@ pub shape_refuses : (body : Data) (path : List ℕ) → least (shape_faults body
 unfolding refusal_of
 shape_refuses body path is = ap (λ o. first_of (fault_at Shape o ∷ (early_looks body ++ late_looks body))) is
 
-beyond_shape : (body : Data) → least (shape_faults body) ≡ None → refusal_of body ≡ first_of (early_looks body ++ late_looks body)
+pub beyond_shape : (body : Data) → least (shape_faults body) ≡ None → refusal_of body ≡ first_of (early_looks body ++ late_looks body)
 unfolding refusal_of
 beyond_shape body is = ap (λ o. first_of (fault_at Shape o ∷ (early_looks body ++ late_looks body))) is
 

@@ -1,7 +1,10 @@
 -- The schema of a body that no look refuses is one of a template.
 use Rattle.std.proofs.Common.{◌≡◌, ◌≤◌, ◌<◌, ◌+◌, ℕ, suc, List, [], ◌∷◌, ◌++◌, Bool, true, false, ◌||◌, ◌&&◌, ◌==◌, not, if◌then◌else◌, Option, Some, None, length, nat_le, bytes_eq, refl, sym, ap, ◌∙◌, subst, arith, inl, inr}
 use Rattle.serde_json.specs.Data.{Data}
+use lib.Utf8.{encode}
+use Rattle.std.specs.Str.{IsUtf8}
 use Rattle.std.proofs.lemmas.Bool.{leb-true}
+use Rattle.std.proofs.lemmas.Str.{is_utf8-from_IsUtf8}
 use Rattle.row_cells.specs.declared.schemas.FieldType.{FieldType}
 use Rattle.row_cells.specs.declared.schemas.FieldType.TheVariants.{Date, Keyword, Long, Integer, Short, Byte, Boolean, Aggregate}
 use Rattle.row_cells.specs.declared.schemas.Role.{Role}
@@ -10,16 +13,14 @@ use Rattle.row_cells.specs.declared.schemas.Field.{Field}
 use Rattle.row_cells.specs.Dimensions.{IsBefore}
 use Rattle.row_cells.specs.Fitting.{FieldsAscendAfter}
 use Rattle.row_cells.specs.Joining.{IsIn}
-use Rattle.row_cells.specs.Mapped.{AreDimensionsAt, ArePaths, IsDimensionAt, PlacesAscendFrom}
+use Rattle.row_cells.specs.Mapped.{AreDimensionsAt, ArePaths, IsDimensionAt, IsPath, PlacesAscendFrom}
 use Rattle.ts_mapping.specs.Faults.{bad_entries, below_fault, clash_faults, count_faults, dimension_faults, dynamic_faults, entries_of, first_of, is_below_any, leaves_of, look, number_of_fields, repeated, role_faults, routing_faults, shards_faults, shards_in, strict_of, timestamp_faults, type_faults}
 use Rattle.ts_mapping.specs.Looks.{early_looks, late_looks}
 use Rattle.ts_mapping.specs.Fields.{added_time, dimension_paths, fields_of, has_time, is_dimension_role, is_listed, paths_of, routing_from, with_fields}
-use Rattle.row_cells.specs.Limits.{longest_path}
 use Rattle.ts_mapping.specs.Limits.{most_fields}
 use Rattle.ts_mapping.specs.Least.{all_faults, fault_unless, least}
-use Rattle.ts_mapping.specs.Paths.{is_among, is_below, is_field_path, timestamp}
+use Rattle.ts_mapping.specs.Paths.{has_path_form, is_among, is_below, is_field_path, timestamp}
 use Rattle.ts_mapping.specs.Properties.{Property, properties_of}
-use Rattle.ts_mapping.specs.Outcomes.{AreTexts}
 use Rattle.ts_mapping.specs.Roles.{is_date, may_have}
 use Rattle.ts_mapping.specs.Schemas.{AreApart, AreTemplateFields, IsTemplateField, IsTemplateSchema, time_field}
 use Rattle.ts_mapping.specs.Templates.{schema_of, schema_with}
@@ -28,14 +29,21 @@ use Rattle.ts_mapping.specs.Shapes.{body_faults, property_faults, shape_faults, 
 use Rattle.ts_mapping.specs.declared.kinds.MapKind.TheVariants.{BadShards, BadDynamic, UnknownType, TooManyFields, PathClash, BadTimestamp, BadRole, NoDimension, BadRouting}
 use Rattle.ts_mapping.proofs.Nothing.{first_look, first_nothing, holds, later_looks, look_nothing, no_paths, second_nothing}
 use Rattle.ts_mapping.proofs.Placing.{AllBy, AllOf, field_paths, of_all, with_all, with_ascends, with_gets, with_keeps, with_length}
-use Rattle.ts_mapping.specs.PathLaws.{exact, first_true, in_any, itself, or_second, second_true, short_path}
+use Rattle.ts_mapping.specs.PathLaws.{exact, first_true, in_any, itself, of_text, or_second, second_true, text_path}
 use Rattle.ts_mapping.proofs.Sound.{AreSound, all_fields, all_sent, all_template, sound_leaves}
 
 -- ---- the field of the time
 
+time_text : IsUtf8 timestamp
+unfolding encode
+time_text = (timestamp, (refl, refl))
+
+time_path : is_field_path timestamp ≡ true
+unfolding has_path_form
+time_path = sym (of_text timestamp time_text)
+
 time_is_template : IsTemplateField time_field
-unfolding is_field_path
-time_is_template = record { path = refl; role = refl; time = ((λ _. refl), (λ _. refl)) }
+time_is_template = record { path = time_path; role = refl; time = ((λ _. refl), (λ _. refl)) }
 
 added_all : (P : Field → Type 0) (ps : List Property) → P time_field → AllOf P (added_time ps)
 added_all P ps here = go (has_time ps)
@@ -93,20 +101,23 @@ timed ps are roles = time_in (fields_of ps) (all_are_template ps are) (go (has_t
 -- ---- paths
 
 pub some_path : (p : List ℕ) → is_field_path p ≡ true → 0 < length p
-unfolding is_field_path
-some_path [] is = absurd (no (second_true (nat_le 0 longest_path) false is))
+some_path [] is = absurd (no (text_path [] is).parts)
   where
     no : false ≡ true → ⊥
     no e = cc
 some_path (b ∷ p) is = omega arith
 
+-- a field's path is one by which a schema may have a field
+pub path_is : (p : List ℕ) → is_field_path p ≡ true → IsPath p
+path_is p is = let known = text_path p is in record { some = some_path p is; short = known.short; text = known.text }
+
 after_nothing : (p : List ℕ) → 0 < length p → IsBefore [] p
 after_nothing [] some = absurd (omega (arith, some))
 after_nothing (b ∷ p) some = refl
 
-are_paths : (fs : List Field) → AllOf IsTemplateField fs → AreTexts fs → ArePaths fs
-are_paths [] all texts = tt
-are_paths (f ∷ fs) all texts = (record { some = some_path f.path all.0.path; short = short_path f.path all.0.path; text = texts.0 }, are_paths fs all.1 texts.1)
+are_paths : (fs : List Field) → AllOf IsTemplateField fs → ArePaths fs
+are_paths [] all = tt
+are_paths (f ∷ fs) all = (path_is f.path all.0.path, are_paths fs all.1)
 
 by_template : (ps : List Property) → AllBy IsTemplateField ps → AllBy (λ f. IsBefore [] f.path) ps
 by_template [] by = tt
@@ -275,12 +286,12 @@ routed fs (Some (e ∷ es)) dimensions none =
 
 -- ---- the whole
 
-pub schema_is : (ps : List Property) (entries : Option (List (List ℕ))) → AreSound ps → number_of_fields ps ≤ most_fields → clash_faults ps ≡ [] → role_faults ps ≡ [] → dimension_faults (fields_of ps) ≡ [] → routing_faults (fields_of ps) entries ≡ [] → AreTexts (fields_of ps) → IsTemplateSchema (schema_with (fields_of ps) entries)
-schema_is ps entries are within clashes roles dimensions routing texts =
+pub schema_is : (ps : List Property) (entries : Option (List (List ℕ))) → AreSound ps → number_of_fields ps ≤ most_fields → clash_faults ps ≡ [] → role_faults ps ≡ [] → dimension_faults (fields_of ps) ≡ [] → routing_faults (fields_of ps) entries ≡ [] → IsTemplateSchema (schema_with (fields_of ps) entries)
+schema_is ps entries are within clashes roles dimensions routing =
     let fs = fields_of ps in
     let all = all_are_template ps are in
     record {
-      mapped = record { ascending = ascending ps are; paths = are_paths fs all texts; routing = dimensions_at entries [] fs };
+      mapped = record { ascending = ascending ps are; paths = are_paths fs all; routing = dimensions_at entries [] fs };
       fields = template_fields fs all;
       apart = apart ps are clashes;
       timed = timed ps are roles;
@@ -312,9 +323,9 @@ pub body_fields : (body : Data) → first_of (early_looks body) ≡ None → len
 body_fields body none = few (leaves_of body) (few_body body none)
 
 -- the schema of a body that no look refuses
-pub body_schema : (body : Data) → least (shape_faults body) ≡ None → first_of (early_looks body) ≡ None → first_of (late_looks body) ≡ None → AreTexts (fields_of (leaves_of body)) → IsTemplateSchema (schema_of body)
+pub body_schema : (body : Data) → least (shape_faults body) ≡ None → first_of (early_looks body) ≡ None → first_of (late_looks body) ≡ None → IsTemplateSchema (schema_of body)
 unfolding schema_of
-body_schema body shape early late texts =
+body_schema body shape early late =
     let ps = leaves_of body in
     let fs = fields_of ps in
     let es = entries_of body in
@@ -333,4 +344,3 @@ body_schema body shape early late texts =
     (look_nothing BadRole (role_faults ps) (first_look role (dimension ∷ two) four))
     (look_nothing NoDimension (dimension_faults fs) (first_look dimension two five))
     (look_nothing BadRouting (routing_faults fs es) (first_look routing [] six))
-    texts

@@ -21,15 +21,14 @@ use Rattle.ts_mapping.specs.Checks as spec
 use Rattle.ts_mapping.specs.Facts.{IsMapping, IsTemplate}
 use Rattle.ts_mapping.specs.Fields.{is_dimension_role}
 use Rattle.ts_mapping.specs.Limits.{greatest_priority, longest_look, most_fields, most_patterns, most_shards, shortest_look}
-use Rattle.ts_mapping.specs.Outcomes.{AreTexts}
-use Rattle.ts_mapping.specs.PathLaws.{any_in, exact, first_true, in_any, itself, or_second, second_true, short_path}
+use Rattle.ts_mapping.specs.PathLaws.{any_in, exact, first_true, in_any, itself, or_second, second_true}
 use Rattle.ts_mapping.specs.Paths.{is_among, is_below, is_field_path, timestamp}
 use Rattle.ts_mapping.specs.Ranges.{IsInRange, IsLook}
 use Rattle.ts_mapping.specs.Roles.{is_date, may_have}
 use Rattle.ts_mapping.specs.Schemas.{AreApart, AreTemplateFields, IsTemplateField, IsTemplateSchema, time_field}
 use Rattle.ts_mapping.specs.declared.templates.Mapping.{Mapping}
 use Rattle.ts_mapping.specs.declared.templates.Template.{Template}
-use Rattle.ts_mapping.proofs.SchemaLemmas.{some_path}
+use Rattle.ts_mapping.proofs.SchemaLemmas.{path_is}
 use Rattle.ts_mapping.proofs.Sets.{SamePaths, any_same}
 
 both : (a b : Bool) → a ≡ true → b ≡ true → (a && b) ≡ true
@@ -129,13 +128,13 @@ of_fields : (fs : List Field) → AreTemplateFields fs → are_sound_fields fs �
 of_fields [] all = refl
 of_fields (f ∷ fs) all = both (is_sound_field f) (are_sound_fields fs) (of_field f all.0) (of_fields fs all.1)
 
-to_paths : (fs : List Field) → AreTemplateFields fs → AreTexts fs → ArePaths fs
-to_paths [] all texts = tt
-to_paths (f ∷ fs) all texts = (record { some = some_path f.path all.0.path; short = short_path f.path all.0.path; text = texts.0 }, to_paths fs all.1 texts.1)
+to_paths : (fs : List Field) → AreTemplateFields fs → ArePaths fs
+to_paths [] all = tt
+to_paths (f ∷ fs) all = (path_is f.path all.0.path, to_paths fs all.1)
 
 -- ---- no field below another
 
-in_paths : (g : Field) (fs : List Field) → IsIn g fs → is_among g.path (field_paths fs) ≡ true
+pub in_paths : (g : Field) (fs : List Field) → IsIn g fs → is_among g.path (field_paths fs) ≡ true
 in_paths g [] is = absurd is
 in_paths g (f ∷ fs) is =
     elim is [
@@ -143,12 +142,12 @@ in_paths g (f ∷ fs) is =
       | inr later ↦ or_second (bytes_eq g.path f.path) (is_among g.path (field_paths fs)) (in_paths g fs later)
     ]
 
-record Has (q : List ℕ) (fs : List Field) : Type 0 where
-  field : Field
-  is_in : IsIn field fs
-  path : q ≡ field.path
+pub record Has (q : List ℕ) (fs : List Field) : Type 0 where
+  pub field : Field
+  pub is_in : IsIn field fs
+  pub path : q ≡ field.path
 
-of_paths : (q : List ℕ) (fs : List Field) → is_among q (field_paths fs) ≡ true → Has q fs
+pub of_paths : (q : List ℕ) (fs : List Field) → is_among q (field_paths fs) ≡ true → Has q fs
 of_paths q [] is = cc
 of_paths q (f ∷ fs) is = go (bytes_eq q f.path) refl is (of_paths q fs)
   where
@@ -260,8 +259,8 @@ of_dimensions fs (p ∷ ps) all = both (is_dimension_at fs p) (are_dimensions_at
 
 -- ---- schemas
 
-to_schema : (schema : Schema) → AreTexts schema.fields → is_schema schema ≡ true → IsTemplateSchema schema
-to_schema schema texts is =
+to_schema : (schema : Schema) → is_schema schema ≡ true → IsTemplateSchema schema
+to_schema schema is =
     let fs = schema.fields in
     let ps = schema.routing in
     let ascends = ascend_after [] fs in
@@ -279,7 +278,7 @@ to_schema schema texts is =
     record {
       mapped = record {
         ascending = to_ascend [] fs (first_true ascends (sound && (apart && (timed && few))) fields);
-        paths = to_paths fs all texts;
+        paths = to_paths fs all;
         routing = to_dimensions fs ps (first_true (are_dimensions_at fs ps) (places_ascend 0 (length fs) ps && nat_le 1 (length ps)) routing);
       };
       fields = all;
@@ -366,23 +365,23 @@ of_range t is =
 
 -- ---- the whole
 
-pub mapping_tested : (m : Mapping) → AreTexts m.schema.fields → (spec.is_mapping m ≡ true) ↔ IsMapping m
-mapping_tested m texts = (
+pub mapping_tested : (m : Mapping) → (spec.is_mapping m ≡ true) ↔ IsMapping m
+mapping_tested m = (
   (λ is. record {
     shards = to_shards m.shards (first_true (are_shards m.shards) (is_schema m.schema) is);
-    schema = to_schema m.schema texts (second_true (are_shards m.shards) (is_schema m.schema) is);
+    schema = to_schema m.schema (second_true (are_shards m.shards) (is_schema m.schema) is);
   }),
   (λ is. both (are_shards m.shards) (is_schema m.schema) (of_shards m.shards is.shards) (of_schema m.schema is.schema)),
 )
 
-pub template_tested : (t : Template) → AreTexts t.schema.fields → (spec.is_template t ≡ true) ↔ IsTemplate t
-template_tested t texts = (
+pub template_tested : (t : Template) → (spec.is_template t ≡ true) ↔ IsTemplate t
+template_tested t = (
   (λ is.
       let rest = second_true (is_in_range t) (not t.schema.folded && (t.schema.rises && is_schema t.schema)) is in
       let more = second_true (not t.schema.folded) (t.schema.rises && is_schema t.schema) rest in
       record {
         ranges = to_range t (first_true (is_in_range t) (not t.schema.folded && (t.schema.rises && is_schema t.schema)) is);
-        schema = to_schema t.schema texts (second_true t.schema.rises (is_schema t.schema) more);
+        schema = to_schema t.schema (second_true t.schema.rises (is_schema t.schema) more);
         raw = not_true t.schema.folded (first_true (not t.schema.folded) (t.schema.rises && is_schema t.schema) rest);
         rising = first_true t.schema.rises (is_schema t.schema) more;
       }),

@@ -4,6 +4,7 @@ pub mod FactLaws
 pub mod Facts
 pub mod Faults
 pub mod Fields
+pub mod Laws
 pub mod Least
 pub mod LeastLaws
 pub mod Limits
@@ -13,6 +14,7 @@ pub mod PathLaws
 pub mod Paths
 pub mod Properties
 pub mod Ranges
+pub mod ReadingLaws
 pub mod Readings
 pub mod Roles
 pub mod Schemas

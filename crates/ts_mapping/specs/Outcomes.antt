@@ -1,7 +1,6 @@
 -- What a body was read as; for private clauses.
-use Rattle.std.specs.Prelude.{◌≡◌, ℕ, List, [], ◌∷◌, Some, None, IsUtf8}
+use Rattle.std.specs.Prelude.{◌≡◌, ℕ, List, Some, None}
 use Rattle.serde_json.specs.Data.{Data}
-use Rattle.row_cells.specs.declared.schemas.Field.{Field}
 use Rattle.ts_mapping.specs.Faults.{first_of, leaves_of, refusal_of}
 use Rattle.ts_mapping.specs.Looks.{early_looks}
 use Rattle.ts_mapping.specs.Least.{least}
@@ -26,8 +25,3 @@ IsSentAs body (Sent settings leaves) =
     (settings_seen settings.items ≡ settings_of body) × (properties_seen leaves.items ≡ leaves_of body)
     × (least (shape_faults body) ≡ None) × (first_of (early_looks body) ≡ None)
 IsSentAs body (Refused fault) = refusal_of body ≡ Some fault
-
--- the paths are texts
-abbrev pub AreTexts : List Field → Type 0
-AreTexts [] = Unit {0}
-AreTexts (f ∷ fs) = IsUtf8 f.path × AreTexts fs

@@ -1,10 +1,12 @@
 -- Paths below others, and tests that ask which paths are among some.
-use Rattle.std.proofs.Common.{◌≡◌, ◌<◌, ◌≤◌, ℕ, zero, suc, List, [], ◌∷◌, Bool, true, false, ◌||◌, ◌&&◌, ◌==◌, not, bytes_eq, take, length, get_or, nat_le, refl, arith, subst}
+use Rattle.std.proofs.Common.{◌≡◌, ◌<◌, ◌≤◌, ℕ, zero, suc, List, [], ◌∷◌, Bool, true, false, ◌||◌, ◌&&◌, ◌==◌, not, bytes_eq, take, length, get_or, nat_le, refl, sym, ap, arith, subst}
 use Rattle.std.specs.List.{list_any}
+use Rattle.std.specs.Str.{IsUtf8, is_utf8}
 use Rattle.std.proofs.lemmas.Slice.Eq.{bytes_eq-Decides}
 use Rattle.std.proofs.lemmas.Bool.{eq-eqb, eqb-true, leb-true}
+use Rattle.std.proofs.lemmas.Str.{IsUtf8-from_is_utf8, is_utf8-from_IsUtf8}
 use Rattle.row_cells.specs.Limits.{longest_path}
-use Rattle.ts_mapping.specs.Paths.{first_part, has_parts, is_among, is_below, is_field_path, reserved}
+use Rattle.ts_mapping.specs.Paths.{first_part, has_parts, has_path_form, is_among, is_below, is_field_path, reserved}
 
 and_true : (a b : Bool) → a ≡ true → b ≡ true → (a && b) ≡ true
 and_true a b p q = rw (p, q) refl
@@ -97,7 +99,29 @@ none_below p ps none = go (list_any (is_below p) ps) refl
         let front = front_of_below p one.path one.pass in
         absurd (not_both (is_among one.path ps) one.among (subst (λ q. is_among q ps ≡ false) front.front (none (length one.path) front.short front.dot)))
 
+-- what is known of a field's path
+pub record IsTextPath (p : List ℕ) : Type 0 where
+  pub text : IsUtf8 p
+  pub short : length p ≤ longest_path
+  pub parts : has_parts true p ≡ true
+
+pub text_path : (p : List ℕ) → is_field_path p ≡ true → IsTextPath p
+unfolding is_field_path has_path_form
+text_path p is =
+    let short = nat_le (length p) longest_path in
+    let free = not (is_among (first_part p) reserved) in
+    let rest = second_true (is_utf8 p) (short && (has_parts true p && free)) is in
+    record {
+      text = IsUtf8-from_is_utf8 p (first_true (is_utf8 p) (short && (has_parts true p && free)) is);
+      short = leb-true (length p) longest_path (first_true short (has_parts true p && free) rest);
+      parts = first_true (has_parts true p) free (second_true short (has_parts true p && free) rest);
+    }
+
+-- a text of the form is such a path, and no other
+pub of_text : (p : List ℕ) → IsUtf8 p → has_path_form p ≡ is_field_path p
+unfolding is_field_path
+of_text p text = sym (ap (λ b. b && has_path_form p) (is_utf8-from_IsUtf8 p text))
+
 -- a field's path isn't long
 pub short_path : (p : List ℕ) → is_field_path p ≡ true → length p ≤ longest_path
-unfolding is_field_path
-short_path p is = leb-true (length p) longest_path (first_true (nat_le (length p) longest_path) (has_parts true p && not (is_among (first_part p) reserved)) is)
+short_path p is = (text_path p is).short

@@ -1,6 +1,7 @@
 -- Paths of fields: names joined by dots.
 use Rattle.std.specs.Prelude.{ℕ, Bool, true, false, ◌==◌, ◌&&◌, not, nat_le, List, [], ◌∷◌, length, codes, bytes_eq, if◌then◌else◌}
 use Rattle.std.specs.List.{list_any}
+use Rattle.std.specs.Str.{is_utf8}
 use Rattle.row_cells.specs.Limits.{longest_path}
 
 -- a path is one of a list
@@ -27,9 +28,13 @@ abbrev pub first_part : List ℕ → List ℕ
 first_part [] = []
 first_part (b ∷ p) = if b == 46 then [] else b ∷ first_part p
 
--- a path that a field may have: no part is empty, it isn't too long, and its first part isn't reserved
+-- bytes as a field's path has them: they aren't too many, no part is empty, and the first isn't reserved
+unfoldable pub has_path_form : List ℕ → Bool
+has_path_form p = nat_le (length p) longest_path && (has_parts true p && not (is_among (first_part p) reserved))
+
+-- a path that a field may have: a text of this form
 unfoldable pub is_field_path : List ℕ → Bool
-is_field_path p = nat_le (length p) longest_path && (has_parts true p && not (is_among (first_part p) reserved))
+is_field_path p = is_utf8 p && has_path_form p
 
 -- where documents have their time
 abbrev pub timestamp : List ℕ

@@ -1,7 +1,7 @@
 -- What a leaf of a document is at a field of each type.
 use Rattle.std.specs.Prelude.{ℕ, ◌==◌, ℤ, pos, negsuc, neg_ℤ, int_le, Bool, true, false, ◌&&◌, nat_le, List, [], ◌∷◌, length, codes, bytes_eq, if◌then◌else◌, Option, Some, None, option_and_then, option_map}
 use Rattle.std.specs.Fmt.{signed_decimal}
-use Rattle.std.specs.Str.{all_ascii_digits}
+use Rattle.std.specs.Str.{all_ascii_digits, is_utf8}
 use Rattle.std.specs.Str.Parse.{digits_value}
 use Rattle.serde_json.specs.Data.{Data, null, boolean, number, string, array, object}
 use Rattle.serde_json.specs.Find.{get, as_number, as_i64, as_integer}
@@ -64,13 +64,23 @@ abbrev pub flag_text : Bool → List ℕ
 flag_text true = codes "true"
 flag_text false = codes "false"
 
--- a keyword: a text of at most 32,766 bytes, a JSON whole number of 64 bits with or without a sign as its decimal text,
--- or a truth value as its name
+-- a whole number of 64 bits, with or without a sign
+abbrev pub has_64_bits : ℤ → Bool
+has_64_bits v = int_le (negsuc 9223372036854775807) v && int_le v (pos 18446744073709551615)
+
+abbrev pub number_word : ℤ → Option (List ℕ)
+number_word v = if has_64_bits v then Some (signed_decimal v) else None
+
+abbrev pub text_word : List ℕ → Option (List ℕ)
+text_word s = if is_utf8 s && nat_le (length s) longest_word then Some s else None
+
+-- a keyword: a text of at most 32,766 bytes of UTF-8, a JSON whole number of 64 bits with or without a sign as its decimal
+-- text, or a truth value as its name
 abbrev pub keyword_of : Data → Option (List ℕ)
 keyword_of null = None
 keyword_of (boolean b) = Some (flag_text b)
-keyword_of (number n) = option_map signed_decimal (as_integer n)
-keyword_of (string s) = if nat_le (length s) longest_word then Some s else None
+keyword_of (number n) = option_and_then number_word (as_integer n)
+keyword_of (string s) = text_word s
 keyword_of (array ds) = None
 keyword_of (object ms) = None
 
@@ -107,7 +117,7 @@ parts_names = codes "max" ∷ codes "min" ∷ codes "sum" ∷ codes "value_count
 
 -- a member that is a JSON whole number of signed 64 bits
 abbrev pub whole_at : List ℕ → Data → Option ℤ
-whole_at name leaf = option_and_then as_i64 (option_and_then as_number (get name leaf))
+whole_at name leaf = option_and_then (in_type Long) (option_and_then as_i64 (option_and_then as_number (get name leaf)))
 
 abbrev pub counted_parts : ℤ → ℤ → ℤ → ℤ → Option Parts
 counted_parts min max sum count =

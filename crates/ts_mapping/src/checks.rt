@@ -4,7 +4,6 @@ ghost use Rattle.std.specs.List.{slice_index_or};
 ghost use Rattle.row_cells.specs.declared.schemas.Field.{Field};
 ghost use Rattle.ts_mapping.specs.Checks as spec;
 ghost use Rattle.ts_mapping.specs.Facts.{IsMapping, IsTemplate};
-ghost use Rattle.ts_mapping.specs.Outcomes.{AreTexts};
 ghost use Rattle.ts_mapping.specs.Paths.{is_among};
 
 use crate::body::are_patterns;
@@ -12,7 +11,6 @@ use crate::fields::{TIMESTAMP, is_date, may_have};
 use crate::limits::{
     GREATEST_PRIORITY, LONGEST_LOOK, MOST_FIELDS, MOST_PATTERNS, MOST_SHARDS, SHORTEST_LOOK,
 };
-use crate::making::read_paths;
 use crate::path_set::PathSet;
 use crate::paths::is_field_path;
 use crate::routing::is_dimension;
@@ -56,7 +54,7 @@ fn is_sound(field: &Field) -> bool
     ensures { result ≡ spec.is_sound_field field.now }
 {
     let at_time = field.path.as_str() == TIMESTAMP;
-    is_field_path(field.path.as_bytes())
+    is_field_path(field.path.as_str())
         && may_have(field.kind, field.role)
         && are_same(is_time(field.role), at_time)
 }
@@ -173,11 +171,9 @@ fn are_routing(fields: &[Field], places: &[u32]) -> bool
 }
 
 fn is_schema(alloc: Global, schema: &Schema) -> Result<bool, NoMemory>
-    ensures test { IfOk result (λ is. is ≡ spec.is_schema schema.now) }
-    ensures texts { IfOk result (λ _. AreTexts schema.now.fields) }
+    ensures { IfOk result (λ is. is ≡ spec.is_schema schema.now) }
 {
     let fields = schema.fields.as_slice();
-    read_paths(fields);
     let sound = are_fields(alloc, fields)?;
     Ok(sound && are_routing(fields, schema.routing.as_slice()))
 }
@@ -209,8 +205,7 @@ fn is_in_range(template: &Template) -> bool
 }
 
 fn passes_mapping(alloc: Global, mapping: &Mapping) -> Result<bool, NoMemory>
-    ensures test { IfOk result (λ is. is ≡ spec.is_mapping mapping.now) }
-    ensures texts { IfOk result (λ _. AreTexts mapping.now.schema.fields) }
+    ensures { IfOk result (λ is. is ≡ spec.is_mapping mapping.now) }
 {
     let schema = is_schema(alloc, &mapping.schema)?;
     Ok(are_shards(mapping.shards) && schema)
@@ -225,8 +220,7 @@ pub fn is_mapping(alloc: Global, mapping: &Mapping) -> Result<bool, NoMemory>
 }
 
 fn passes_template(alloc: Global, template: &Template) -> Result<bool, NoMemory>
-    ensures test { IfOk result (λ is. is ≡ spec.is_template template.now) }
-    ensures texts { IfOk result (λ _. AreTexts template.now.schema.fields) }
+    ensures { IfOk result (λ is. is ≡ spec.is_template template.now) }
 {
     let schema = is_schema(alloc, &template.schema)?;
     Ok(is_in_range(template) && !template.schema.folded && template.schema.rises && schema)

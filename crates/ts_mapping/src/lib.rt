@@ -30,7 +30,9 @@ mod trees;
 pub use agreeing::first_other;
 pub use checks::{is_mapping, is_template};
 pub use kinds::MapKind;
-pub use laws::least_is_least;
+pub use laws::{
+    bodies_are_templates, least_is_least, parts_of_leaves_fit, readings_fit, templates_have_bodies,
+};
 pub use limits::{
     GREATEST_PRIORITY, LONGEST_LOOK, MOST_FIELDS, MOST_PATTERNS, MOST_SHARDS, SHORTEST_LOOK,
     USUAL_LOOK_AHEAD, USUAL_LOOK_BACK,

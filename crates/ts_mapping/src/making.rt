@@ -6,7 +6,7 @@ ghost use Rattle.ts_mapping.specs.Looks.{early_looks};
 ghost use Rattle.ts_mapping.specs.Fields.{fields_of};
 ghost use Rattle.ts_mapping.specs.Least.{least};
 ghost use Rattle.ts_mapping.specs.Limits.{most_fields};
-ghost use Rattle.ts_mapping.specs.Outcomes.{AreTexts, IsReadAs};
+ghost use Rattle.ts_mapping.specs.Outcomes.{IsReadAs};
 ghost use Rattle.ts_mapping.specs.Seen.{properties_seen, settings_seen};
 ghost use Rattle.ts_mapping.specs.Settings.{settings_of};
 ghost use Rattle.ts_mapping.specs.Shapes.{patterns_of, shape_faults};
@@ -102,15 +102,6 @@ fn make(
     })
 }
 
-/// Reads each path once, since contracts know a text by that.
-pub fn read_paths(fields: &[Field])
-    ensures { AreTexts fields.now }
-{
-    for field in fields {
-        let _ = field.path.as_str();
-    }
-}
-
 /// The template of what a body sent, or the fault that the late looks find first.
 #[tactic(auto, unfolding(crate::specs::Faults::entries_of, crate::specs::Templates::schema_of))]
 fn read_sent(
@@ -132,7 +123,6 @@ fn read_sent(
         return Ok(Outcome::Faulty(fault));
     }
     let schema = schema(alloc, fields, slice_of(&entries))?;
-    read_paths(schema.fields.as_slice());
     let template = make(alloc, name, body, settings, schema)?;
     Ok(Outcome::Made(template))
 }

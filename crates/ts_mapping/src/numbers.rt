@@ -72,7 +72,7 @@ fn whole_of(leaf: &Value) -> Option<i128>
 }
 
 /// The number as one of the type, where it is in the type's range.
-fn in_type(kind: FieldType, number: i128) -> Option<i64>
+pub fn in_type(kind: FieldType, number: i128) -> Option<i64>
     ensures value { result ≡ spec.in_type kind number }
     ensures fits { IfSome result (IsNumberOf kind) }
 {

@@ -45,10 +45,18 @@ fn is_reserved(name: &[u8]) -> bool
         || name == b"_tsid".as_slice()
 }
 
-/// Whether a field may have the path: it has at most 512 bytes, no part is empty, and the first isn't reserved.
-#[tactic(auto, unfolding(crate::specs::Paths::is_field_path))]
-pub fn is_field_path(path: &[u8]) -> bool
-    ensures { result ≡ spec.is_field_path path.now }
+/// Whether bytes are as a field's path has them.
+#[tactic(auto, unfolding(crate::specs::Paths::has_path_form))]
+fn has_form(path: &[u8]) -> bool
+    ensures { result ≡ spec.has_path_form path.now }
 {
     path.len() <= LONGEST_PATH && has_parts(path) && !is_reserved(first_part(path))
+}
+
+/// Whether a field may have the path: it has at most 512 bytes, no part is empty, and the first isn't reserved.
+#[tactic(auto, using(crate::specs::PathLaws::of_text))]
+pub fn is_field_path(path: &str) -> bool
+    ensures { result ≡ spec.is_field_path path.now }
+{
+    has_form(path.as_bytes())
 }

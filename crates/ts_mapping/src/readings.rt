@@ -1,6 +1,5 @@
 //! What a leaf of a document is at a field of each type.
-ghost use Rattle.std.specs.Prelude.{◌≡◌, ◌≢◌, ◌≤◌, length, IfOk, IfSome, option_map, IsUtf8};
-ghost use Rattle.std.specs.Fmt.{signed_decimal};
+ghost use Rattle.std.specs.Prelude.{◌≡◌, ◌≢◌, ◌≤◌, length, pos, Some, IfOk, IfSome, option_and_then, IsUtf8};
 ghost use Rattle.serde_json.specs.Find.{as_integer};
 ghost use Rattle.serde_json.specs.View.{number_view, view};
 ghost use Rattle.row_cells.specs.Fitting.{IsAggregate, IsValueOf};
@@ -10,7 +9,7 @@ ghost use Rattle.ts_mapping.specs.Readings as spec;
 ghost use Rattle.ts_mapping.specs.Readings.{aggregate_of, reading_of};
 ghost use Rattle.row_cells.specs.declared.schemas.FieldType.TheVariants.{Aggregate};
 
-use crate::numbers::number_of;
+use crate::numbers::{in_type, number_of};
 use edge_face::{NoMemory, Text};
 use fold_law::Parts;
 use itoa::Buffer;
@@ -44,17 +43,47 @@ fn flag_text(flag: bool) -> &'static str
     if flag { "true" } else { "false" }
 }
 
-fn number_text(alloc: Global, number: &Number) -> Result<Option<Text>, NoMemory>
-    ensures value { IfOk result (λ read. read ≡ option_map signed_decimal (as_integer (number_view number.now))) }
-    ensures fits { IfOk result (λ read. IfSome read (λ t. IsUtf8 t × (length t ≤ longest_word))) }
+#[tactic(auto, using(crate::specs::ReadingLaws::natural_told))]
+fn natural_word(alloc: Global, natural: u64) -> Result<Text, NoMemory>
+    ensures value { IfOk result (λ t. Some t ≡ spec.number_word (pos natural)) }
+    ensures fits { IfOk result (λ t. IsUtf8 t × (length t ≤ longest_word)) }
 {
     let mut buffer = Buffer::new();
+    Text::new(alloc, buffer.format(natural))
+}
+
+#[tactic(auto, using(crate::specs::ReadingLaws::signed_told))]
+fn signed_word(alloc: Global, number: i64) -> Result<Text, NoMemory>
+    ensures value { IfOk result (λ t. Some t ≡ spec.number_word number) }
+    ensures fits { IfOk result (λ t. IsUtf8 t × (length t ≤ longest_word)) }
+{
+    let mut buffer = Buffer::new();
+    Text::new(alloc, buffer.format(number))
+}
+
+fn number_text(alloc: Global, number: &Number) -> Result<Option<Text>, NoMemory>
+    ensures value { IfOk result (λ read. read ≡ option_and_then spec.number_word (as_integer (number_view number.now))) }
+    ensures fits { IfOk result (λ read. IfSome read (λ t. IsUtf8 t × (length t ≤ longest_word))) }
+{
     if let Some(natural) = number.as_u64() {
-        return Ok(Some(Text::new(alloc, buffer.format(natural))?));
+        return Ok(Some(natural_word(alloc, natural)?));
     }
     match number.as_i64() {
-        Some(negative) => Ok(Some(Text::new(alloc, buffer.format(negative))?)),
+        Some(negative) => Ok(Some(signed_word(alloc, negative)?)),
         None => Ok(None),
+    }
+}
+
+/// The keyword that a text is, if it is short enough.
+#[tactic(auto, using(crate::specs::ReadingLaws::word_taken, crate::specs::ReadingLaws::word_refused))]
+fn text_word(alloc: Global, text: &str) -> Result<Option<Text>, NoMemory>
+    ensures value { IfOk result (λ read. read ≡ spec.text_word text.now) }
+    ensures fits { IfOk result (λ read. IfSome read (λ t. IsUtf8 t × (length t ≤ longest_word))) }
+{
+    if text.len() <= LONGEST_WORD {
+        Ok(Some(Text::new(alloc, text)?))
+    } else {
+        Ok(None)
     }
 }
 
@@ -66,9 +95,7 @@ fn keyword_of(alloc: Global, leaf: &Value) -> Result<Option<Text>, NoMemory>
     match leaf {
         Value::Bool(flag) => Ok(Some(Text::new(alloc, flag_text(*flag))?)),
         Value::Number(number) => number_text(alloc, number),
-        Value::String(text) if text.len() <= LONGEST_WORD => {
-            Ok(Some(Text::new(alloc, text.as_str())?))
-        }
+        Value::String(text) => text_word(alloc, text.as_str()),
         _ => Ok(None),
     }
 }
@@ -117,6 +144,14 @@ pub fn read_scalar(alloc: Global, kind: FieldType, leaf: &Value) -> Result<Optio
     }
 }
 
+/// A member that is a whole number of signed 64 bits.
+fn whole_at(leaf: &Value, name: &str) -> Option<i64>
+    ensures { result ≡ spec.whole_at name.now (view leaf.now) }
+{
+    let number = leaf.get(name)?.as_i64()?;
+    in_type(FieldType::Long, i128::from(number))
+}
+
 /// The parts of an aggregate's leaf, or None where it has no reading: an object with exactly `max`, `min`, `sum` and
 /// `value_count`, each a JSON whole number of signed 64 bits, and a value count of at least 1.
 pub fn read_aggregate(leaf: &Value) -> Option<Parts>
@@ -126,10 +161,10 @@ pub fn read_aggregate(leaf: &Value) -> Option<Parts>
     if !has_names(leaf, &["max", "min", "sum", "value_count"]) {
         return None;
     }
-    let min = leaf.get("min").and_then(Value::as_i64)?;
-    let max = leaf.get("max").and_then(Value::as_i64)?;
-    let sum = leaf.get("sum").and_then(Value::as_i64)?;
-    let count = leaf.get("value_count").and_then(Value::as_i64)?;
+    let min = whole_at(leaf, "min")?;
+    let max = whole_at(leaf, "max")?;
+    let sum = whole_at(leaf, "sum")?;
+    let count = whole_at(leaf, "value_count")?;
     if count < 1 {
         return None;
     }

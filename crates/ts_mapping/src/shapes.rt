@@ -156,7 +156,7 @@ pub fn check_property(
     ensures { OnOk result (least.new
         ≡ least_with least.old (spec.property_faults (record { place = place.now; property = record { path = path.now; value = view value.now } }))) }
 {
-    let sound = is_field_path(path.as_bytes());
+    let sound = is_field_path(path);
     least.note_unless(alloc, sound, place)?;
     check_value(alloc, value, place, least)
 }

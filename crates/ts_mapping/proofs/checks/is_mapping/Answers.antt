@@ -6,4 +6,4 @@ use Rattle.ts_mapping.proofs.checks.is_mapping.Goals as goal
 pub returns : goal.returns
 returns c =
     let m = c.args.mapping.now in
-    subst (λ b. (b ≡ true) ↔ IsMapping m) (sym c.in_ok-passes.ensures.test) (mapping_tested m c.in_ok-passes.ensures.texts)
+    subst (λ b. (b ≡ true) ↔ IsMapping m) (sym c.in_ok-passes.ensures) (mapping_tested m)

@@ -6,4 +6,4 @@ use Rattle.ts_mapping.proofs.checks.is_template.Goals as goal
 pub returns : goal.returns
 returns c =
     let t = c.args.template.now in
-    subst (λ b. (b ≡ true) ↔ IsTemplate t) (sym c.in_ok-passes.ensures.test) (template_tested t c.in_ok-passes.ensures.texts)
+    subst (λ b. (b ≡ true) ↔ IsTemplate t) (sym c.in_ok-passes.ensures) (template_tested t)

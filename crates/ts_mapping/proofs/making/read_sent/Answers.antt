@@ -4,7 +4,6 @@ use Rattle.serde_json.specs.View.{view}
 use Rattle.ts_mapping.specs.Faults.{first_of, leaves_of}
 use Rattle.ts_mapping.specs.Looks.{late_looks}
 use Rattle.ts_mapping.specs.Fields.{fields_of}
-use Rattle.ts_mapping.specs.Outcomes.{AreTexts}
 use Rattle.ts_mapping.specs.Schemas.{IsTemplateSchema}
 use Rattle.ts_mapping.specs.Seen.{properties_seen, settings_seen}
 use Rattle.ts_mapping.specs.Limits.{most_fields}
@@ -32,10 +31,8 @@ returns c =
     let entries = c.slice_of.ensures ∙ (c.in_ok-entries.ensures ∙ entries_are body (settings_seen c.args.settings.now) c.requires.settings) in
     let late = late_is body (properties_seen c.args.leaves.now) c.as_slice.result.now (option_map (λ es. es.now) c.slice_of.result) c.requires.leaves fields entries in
     let nothing : first_of (late_looks body) ≡ None = sym late ∙ (sym c.in_ok-fault.ensures ∙ c.in_default.is) in
-    let kept : c.in_ok-schema.schema.fields ≡ fields_of (leaves_of body) = ap (λ s. s.fields) c.in_ok-schema.ensures ∙ (c.in_ok-fields.ensures ∙ ap fields_of c.requires.leaves) in
-    let texts : AreTexts (fields_of (leaves_of body)) = subst AreTexts (c.as_slice-2.ensures ∙ kept) c.read_paths.ensures in
     let made = c.in_ok-template.ensures in (
       late_decides body c.requires.shape c.requires.early ∙ nothing,
       made,
-      subst IsTemplateSchema (sym (ap (λ t. t.schema) made ∙ template_schema c.args.name.now body)) (body_schema body c.requires.shape c.requires.early nothing texts),
+      subst IsTemplateSchema (sym (ap (λ t. t.schema) made ∙ template_schema c.args.name.now body)) (body_schema body c.requires.shape c.requires.early nothing),
     )
