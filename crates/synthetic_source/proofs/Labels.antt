@@ -28,6 +28,7 @@ use Rattle.json_walk.specs.Counted.{leaf_count, items_leaves, members_leaves}
 use Rattle.json_walk.specs.Leaves.{at, at_items, at_members, given, leaf, leaves_of, whole_object}
 use Rattle.json_walk.specs.Path.{Path, behind, below, end, is_stop, text}
 use Rattle.ts_mapping.specs.Readings.{aggregate_of, reading_of}
+use Rattle.ts_mapping.specs.ReadingLaws.{parts_fit, reading_fits}
 use Rattle.ts_mapping.specs.Roles.{is_aggregate, may_have}
 use Rattle.ts_mapping.specs.Schemas.{AreTemplateFields, IsTemplateSchema}
 use Rattle.synthetic_source.specs.Document.{cells_unless, document_cells, first_fault, leaf_paths, or_next}
@@ -44,7 +45,6 @@ use Rattle.synthetic_source.proofs.Cells.{one_fits}
 use Rattle.synthetic_source.proofs.Decided.{fault_among}
 use Rattle.synthetic_source.proofs.Documents.{fits_rising, tail_rise}
 use Rattle.synthetic_source.proofs.Grouping.{not_same, other_bytes, same_bytes}
-use Rattle.synthetic_source.proofs.Legibly.{parts_fit, reading_fits}
 use Rattle.synthetic_source.proofs.Search.{fields_rise}
 use Rattle.synthetic_source.proofs.Values.{ordered_fits}
 
@@ -318,9 +318,10 @@ after_all p q (r ∷ rs) before rise = (before_chain p q r before rise.0, rise.1
 
 later_there : (f : Field) (all gs : List Field) → RiseAfter f.path (paths_of gs) → Each (λ (g : Field). field_at g.path all ≡ Some g) gs → Each (λ (g : Field). field_at g.path (f ∷ all) ≡ Some g) gs
 later_there f all [] rise each = tt
-later_there f all (g ∷ gs) rise each =
-    (ap (λ b. cond b (Some f) (field_at g.path all)) (other_bytes g.path f.path (λ same. not_same f.path g.path rise.0 (sym same))) ∙ each.0,
-    later_there f all gs (after_all f.path g.path (paths_of gs) rise.0 rise.1) each.1)
+later_there f all (g ∷ gs) rise each = (
+  ap (λ b. cond b (Some f) (field_at g.path all)) (other_bytes g.path f.path (λ same. not_same f.path g.path rise.0 (sym same))) ∙ each.0,
+  later_there f all gs (after_all f.path g.path (paths_of gs) rise.0 rise.1) each.1,
+)
 
 -- each field is the one at its path
 each_there : (fs : List Field) → Rise (paths_of fs) → Each (λ (f : Field). field_at f.path fs ≡ Some f) fs
@@ -344,9 +345,10 @@ all_read_at schema strict d (f ∷ fs) none there = (field_sound schema strict d
 
 all_fit : (schema : Schema) (d : Data) (fs : List Field) → AreTemplateFields fs → Each (IsReadAt schema d) fs → CellsFit false schema.rises 1 fs (map (λ (f : Field). cell_of f.kind f.role (leaves_in schema d f.path)) fs)
 all_fit schema d [] are read = tt
-all_fit schema d (f ∷ fs) are read =
-    (fits_rising schema.rises f.kind f.role (cell_of f.kind f.role (leaves_in schema d f.path)) (cell_fits f.kind f.role (leaves_in schema d f.path) are.0.role read.0),
-    all_fit schema d fs are.1 read.1)
+all_fit schema d (f ∷ fs) are read = (
+  fits_rising schema.rises f.kind f.role (cell_of f.kind f.role (leaves_in schema d f.path)) (cell_fits f.kind f.role (leaves_in schema d f.path) are.0.role read.0),
+  all_fit schema d fs are.1 read.1,
+)
 
 all_short : (schema : Schema) (d : Data) (fs : List Field) → AreTemplateFields fs → leaf_count d ≤ longest_list → Each (IsReadAt schema d) fs → Each IsShortList (map (λ (f : Field). cell_of f.kind f.role (leaves_in schema d f.path)) fs)
 all_short schema d [] are few read = tt

@@ -7,7 +7,6 @@ pub mod Fronts
 pub mod Fuel
 pub mod Grouping
 pub mod Leaves
-pub mod Legibly
 pub mod Labels
 pub mod LeastPath
 pub mod Names

@@ -25,8 +25,8 @@ pub walk_members-loop-name-preserved : goal.walk_members-loop-name-preserved
 walk_members-loop-name-preserved t c =
     let goes = c.in_ok-enter.ensures.place ∙ ap (λ s. c.loop-name.place.items ++ 46 ∷ s) c.as_str.ensures.value in
     let held =
-        c.in_ok-walk_value.ensures.held
-        ∙ ap (λ l. after c.args.strict c.args.fields.now (record { slots = map slot_leaves c.loop-name.walk.slots.items; least = seen_fault l }) (listed (stops_of c.args.fields.now) (here_of c.enter.new.place.items) (view c.in-Some.member.now))) c.enter.ensures.least in
+    c.in_ok-walk_value.ensures.held
+    ∙ ap (λ l. after c.args.strict c.args.fields.now (record { slots = map slot_leaves c.loop-name.walk.slots.items; least = seen_fault l }) (listed (stops_of c.args.fields.now) (here_of c.enter.new.place.items) (view c.in-Some.member.now))) c.enter.ensures.least in
     let outer = c.in_ok-walk_value.ensures.place ∙ (goes ∙ ap (λ b. b ++ 46 ∷ string_bytes c.in-Some.name.now) c.loop-name.invariant.place) in
     record {
       place = c.leave.ensures.place ∙ (ap (take (length c.as_slice-length.result.now)) outer ∙ (ap (λ xs. take (length xs) (c.args.place.now.items ++ 46 ∷ string_bytes c.in-Some.name.now)) c.as_slice-length.ensures.value ∙ take-append_seam c.args.place.now.items _));
