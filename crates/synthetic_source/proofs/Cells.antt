@@ -77,7 +77,7 @@ aggregate_is Byte is = cc
 aggregate_is Boolean is = cc
 aggregate_is Aggregate is = refl
 
-one_fits : (kind : FieldType) (role : Role) (cell : Cell) → takes_one role ≡ true → may_have kind role ≡ true → FitsOne kind cell → CellFits false true kind role 1 cell
+pub one_fits : (kind : FieldType) (role : Role) (cell : Cell) → takes_one role ≡ true → may_have kind role ≡ true → FitsOne kind cell → CellFits false true kind role 1 cell
 one_fits kind role Absent taken may fits = absurd fits
 one_fits kind role (Many vs) taken may fits = absurd fits
 one_fits kind role (Rise r) taken may fits = absurd fits

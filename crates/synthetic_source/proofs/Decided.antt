@@ -110,7 +110,7 @@ first_in schema strict d kind path (p ∷ ps) first rise is =
     ]
 
 -- a path with a fault has leaves
-fault_among : (schema : Schema) (strict : Bool) (d : Data) (kind : DocKind) (path : List ℕ) → fault_at schema strict d path ≡ Some kind → IsAmong path (leaf_paths (stops_of schema.fields) d)
+pub fault_among : (schema : Schema) (strict : Bool) (d : Data) (kind : DocKind) (path : List ℕ) → fault_at schema strict d path ≡ Some kind → IsAmong path (leaf_paths (stops_of schema.fields) d)
 unfolding fault_at AreLeaves
 fault_among schema strict d kind path fault = by (leaves_in schema d path) refl fault
   where

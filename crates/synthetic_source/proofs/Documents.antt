@@ -158,7 +158,7 @@ read_cells_are schema d es [] (c ∷ cs) leaves read = absurd read
 read_cells_are schema d es (f ∷ fs) [] leaves read = absurd read
 read_cells_are schema d es (f ∷ fs) (c ∷ cs) leaves read = ap₂ (λ x xs. x ∷ xs) (read.0.1 ∙ ap (cell_of f.kind f.role) (leaves f.path)) (read_cells_are schema d es fs cs leaves read.1)
 
-fits_rising : (rises : Bool) (kind : FieldType) (role : Role) (c : Cell) → CellFits false true kind role 1 c → CellFits false rises kind role 1 c
+pub fits_rising : (rises : Bool) (kind : FieldType) (role : Role) (c : Cell) → CellFits false true kind role 1 c → CellFits false rises kind role 1 c
 fits_rising rises kind Time c fits = fits
 fits_rising rises kind Dimension c fits = fits
 fits_rising rises kind GaugeRole c fits = fits

@@ -7,6 +7,7 @@ pub mod Fronts
 pub mod Fuel
 pub mod Grouping
 pub mod Leaves
+pub mod Labels
 pub mod LeastPath
 pub mod Names
 pub mod Near

@@ -1,5 +1,5 @@
 -- What a value shows is read as the value.
-use Rattle.std.proofs.Common.{◌≡◌, ◌≤ℤ◌, ℤ, pos, negsuc, ◌^◌, length, int_le, Bool, true, false, cond, ◌&&◌, Some, None, option_map, option_and_then, refl, ap, ap₂, ◌∙◌, arith, le-leb, lt-ltb, FitsSigned}
+use Rattle.std.proofs.Common.{◌≡◌, ◌≤ℤ◌, ℤ, pos, negsuc, ◌^◌, length, int_le, Bool, true, false, cond, ◌&&◌, Some, None, option_map, option_and_then, refl, ap, ap₂, ◌∙◌, arith, lt-ltb, FitsSigned}
 use Rattle.std.proofs.lemmas.Int.{ints}
 use Rattle.std.specs.Int.{w64}
 use Rattle.fold_law.specs.declared.measures.Parts.{Parts}
@@ -8,12 +8,12 @@ use Rattle.serde_json.specs.Find.{as_i64, of_integer}
 use Rattle.time_text.specs.Instant.{IsInstant}
 use Rattle.time_text.specs.Printed.{instant_text}
 use Rattle.time_text.specs.PrintedLaws.{print_reads}
-use Rattle.row_cells.specs.Limits.{longest_word}
 use Rattle.row_cells.specs.declared.scalars.Scalar.{Scalar}
 use Rattle.row_cells.specs.declared.scalars.Scalar.TheVariants.{Whole, Flag, Word}
 use Rattle.row_cells.specs.declared.schemas.FieldType.{FieldType}
 use Rattle.row_cells.specs.declared.schemas.FieldType.TheVariants.{Date, Keyword, Long, Integer, Short, Byte, Boolean, Aggregate}
 use Rattle.row_cells.specs.Fitting.{IsAggregate, IsValueOf}
+use Rattle.ts_mapping.specs.ReadingLaws.{in_long, own_word}
 use Rattle.ts_mapping.specs.Readings.{aggregate_of, in_type, is_number_of, reading_of}
 use Rattle.synthetic_source.specs.Normal.{parts_data, scalar_data}
 
@@ -27,6 +27,9 @@ le_true a b le = go (int_le a b) refl
 number_back : (v : ℤ) → FitsSigned w64 v → as_i64 (of_integer v) ≡ Some v
 number_back (pos n) is = ap (λ b. cond b (Some (pos n)) None) (lt-ltb n (2 ^ 63) (omega (arith, ints, is)))
 number_back (negsuc n) is = refl
+
+part_back : (v : ℤ) → FitsSigned w64 v → option_and_then (in_type Long) (as_i64 (of_integer v)) ≡ Some v
+part_back v is = ap (option_and_then (in_type Long)) (number_back v is) ∙ in_long v is
 
 within : (lo hi v : ℤ) → lo ≤ℤ v → v ≤ℤ hi → (int_le lo v && int_le v hi) ≡ true
 within lo hi v above below = ap₂ (λ x y. x && y) (le_true lo v above) (le_true v hi below)
@@ -45,7 +48,7 @@ reads_back Date (Flag b) is = absurd is
 reads_back Date (Word t) is = absurd is
 reads_back Keyword (Whole v) is = absurd is
 reads_back Keyword (Flag b) is = absurd is
-reads_back Keyword (Word t) is = ap (λ b. option_map Word (cond b (Some t) None)) (le-leb (length t) longest_word is.1)
+reads_back Keyword (Word t) is = ap (option_map Word) (own_word t is)
 reads_back Long (Whole v) is = whole_back Long v is (within (negsuc 9223372036854775807) (pos 9223372036854775807) v (omega (arith, ints, is)) (omega (arith, ints, is)))
 reads_back Long (Flag b) is = absurd is
 reads_back Long (Word t) is = absurd is
@@ -65,8 +68,8 @@ reads_back Aggregate v is = absurd is
 
 pub parts_back : (p : Parts) → IsAggregate p → aggregate_of (parts_data p) ≡ Some p
 parts_back p is =
-    let min = number_back p.min is.least in
-    let max = number_back p.max is.greatest in
-    let sum = number_back p.sum is.sum_fits in
-    let count = number_back p.count is.count_fits in
+    let min = part_back p.min is.least in
+    let max = part_back p.max is.greatest in
+    let sum = part_back p.sum is.sum_fits in
+    let count = part_back p.count is.count_fits in
     rw (min, max, sum, count, le_true (pos 1) p.count is.counted) refl

@@ -1,9 +1,17 @@
 -- The laws of rows and the documents that stand for them.
-use Rattle.std.specs.Prelude.{◌≡◌, Bool, false}
+use Rattle.std.specs.Prelude.{◌≡◌, ◌≤◌, Bool, false, List}
+use Rattle.std.specs.declared.result.Result.TheVariants.{Ok}
+use Rattle.row_cells.specs.Each.{Each}
+use Rattle.row_cells.specs.KeyedRows.{IsShortList}
+use Rattle.row_cells.specs.Limits.{longest_list}
+use Rattle.row_cells.specs.declared.rows.Cell.{Cell}
 use Rattle.row_cells.specs.declared.schemas.Schema.{Schema}
 use Rattle.row_cells.specs.declared.rows.Row.{Row}
-use Rattle.row_cells.specs.Fitting.{Fits}
+use Rattle.row_cells.specs.Fitting.{CellsFit, Fits}
+use Rattle.serde_json.specs.Data.{Data}
+use Rattle.json_walk.specs.Counted.{leaf_count}
 use Rattle.ts_mapping.specs.Schemas.{IsTemplateSchema}
+use Rattle.synthetic_source.specs.Document.{document_cells}
 use Rattle.synthetic_source.specs.Normal.{norm}
 use Rattle.synthetic_source.specs.Rows.{IsTyped}
 
@@ -16,3 +24,8 @@ RebuiltTypes = (schema : Schema) (row : Row) (strict : Bool) → IsTemplateSchem
 abbrev pub RebuiltSettles : Type 0
 RebuiltSettles = (schema : Schema) (row again : Row) (strict : Bool) → IsTemplateSchema schema → schema.folded ≡ false → Fits schema row
     → IsTyped schema strict (norm schema row) (record { time = again.time; cells = again.cells }) → norm schema again ≡ norm schema row
+
+-- the cells of a document without fault fit the schema, and where its leaves are few enough, so are the values of its labels
+abbrev pub CellsOfDocumentsFit : Type 0
+CellsOfDocumentsFit = (schema : Schema) (strict : Bool) (d : Data) (cells : List Cell) → IsTemplateSchema schema → leaf_count d ≤ longest_list
+    → document_cells schema strict d ≡ Ok cells → CellsFit false schema.rises 1 schema.fields cells × Each IsShortList cells

@@ -18,7 +18,7 @@ mod walking;
 mod what;
 
 pub use errors::{DocError, DocKind};
-pub use laws::rebuilt_types;
+pub use laws::{cells_of_documents_fit, rebuilt_types};
 pub use printed::printed_reads_back;
 pub use rebuilding::{rebuild, rebuild_value};
 pub use typing::{Typed, read_time, type_cells, type_doc};
