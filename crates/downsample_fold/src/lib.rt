@@ -11,6 +11,6 @@ pub use folding::{fold_all, fold_series};
 pub use intervals::{IntervalError, check_interval};
 pub use laws::{
     fold_of_some_places, fold_of_some_series, folds_are_rows, folds_compose, folds_in_any_order,
-    folds_join_apart, folds_join_series, folds_keep_rows, folds_keep_series, folds_keep_totals,
-    folds_settle, folds_widen, measures_are_folded, merges_are_folds,
+    folds_join_apart, folds_join_series, folds_keep_rows, folds_keep_series, folds_keep_tested,
+    folds_keep_totals, folds_settle, folds_widen, measures_are_folded, merges_are_folds,
 };

@@ -24,6 +24,7 @@ use Rattle.stream_catalog.proofs.NamedLemmas.{each_updated, named_updated}
 use Rattle.stream_catalog.proofs.ChangeLemmas.{facts_named-facts}
 use Rattle.stream_catalog.proofs.CatalogLemmas.{held_of, sound_of}
 use Rattle.row_cells.specs.PlaceLaws.{push_distinct, free_apart}
+use Rattle.row_cells.specs.Limits.{most_documents}
 
 -- ---- the row
 
@@ -41,7 +42,7 @@ documents_raw schema [] each = refl
 documents_raw schema (row ∷ rows) each = let one = each.0.fits.alone refl in let later = documents_raw schema rows each.1 in omega (arith, one, later)
 
 push_rows : (facts : HeldIndex) (interval : Option Interval) (rows : List Row) (row : Row) → IsKind interval facts.blocked facts.mapping.schema → MayPut facts rows row → AreRows interval facts.mapping.schema facts.start facts.end rows →
-    AreRows interval facts.mapping.schema facts.start facts.end (rows ++ row ∷ []) × (documents (rows ++ row ∷ []) ≤ 16777216)
+    AreRows interval facts.mapping.schema facts.start facts.end (rows ++ row ∷ []) × (documents (rows ++ row ∷ []) ≤ most_documents)
 push_rows facts None rows row kind may are =
     let schema = facts.mapping.schema in
     let same : schema ≡ raw_form schema = ap (λ b. record schema { folded = b }) kind.0 in
@@ -53,7 +54,7 @@ push_rows facts None rows row kind may are =
         each = each_push (IsRowOf (raw_form schema)) rows row are.each here;
         within = each_push (λ r. IsWithin facts.start facts.end r.time) rows row are.within (within_of facts row.time may.within);
       },
-      omega (arith, few, one, more, leb-false 16777216 (length rows) may.room),
+      omega (arith, few, one, more, leb-false most_documents (length rows) may.room),
     )
 push_rows facts (Some by) rows row kind may are = absurd (both_ways facts.blocked may.takes kind.1)
 

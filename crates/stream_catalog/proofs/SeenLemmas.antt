@@ -28,6 +28,7 @@ use Rattle.stream_catalog.proofs.BucketLemmas.{meets_of, down_times}
 use Rattle.downsample_fold.specs.KeepLaws.{folds_are_rows}
 use Rattle.downsample_fold.specs.SettleLaws.{folds_any_form}
 use Rattle.row_cells.specs.PlaceLaws.{in_order-distinct}
+use Rattle.row_cells.specs.Limits.{most_documents}
 
 pub some_ms : (by : Interval) → 0 < ms_of by
 some_ms by = by.in_range.0
@@ -56,7 +57,7 @@ mapped_form : (schema : Schema) (folded : Bool) → IsMapped schema → IsMapped
 mapped_form schema folded mapped = record { ascending = mapped.ascending; paths = mapped.paths; routing = mapped.routing }
 
 -- the fold of rows in either form
-pub down_rows : (schema : Schema) (rows : List Row) (n : ℕ) → IsMapped schema → 0 < n → AreEither schema rows → documents rows ≤ 16777216 → Each (IsRowOf (folded_form schema)) (down schema rows n)
+pub down_rows : (schema : Schema) (rows : List Row) (n : ℕ) → IsMapped schema → 0 < n → AreEither schema rows → documents rows ≤ most_documents → Each (IsRowOf (folded_form schema)) (down schema rows n)
 down_rows schema rows n mapped some either few =
     elim either [
       | inl raw ↦ subst (Each (IsRowOf (folded_form schema))) (folds_any_form schema false rows n) (folds_are_rows (raw_form schema) rows n (mapped_form schema false mapped) some raw few)
@@ -88,7 +89,7 @@ shown_again None schema rows cells = in_row_order-same (in_row_order rows) (in_r
 shown_again (Some by) schema rows cells =
     sym (folds_any_form schema true (down schema rows (ms_of by)) (ms_of by)) ∙ folds_compose schema rows (ms_of by) (ms_of by) cells (some_ms by) (some_ms by) (mod_self (ms_of by))
 
-shown_rows : (interval : Option Interval) (schema : Schema) (start end : ℤ) (rows : List Row) → IsMapped schema → AreRows interval schema start end rows → documents rows ≤ 16777216 →
+shown_rows : (interval : Option Interval) (schema : Schema) (start end : ℤ) (rows : List Row) → IsMapped schema → AreRows interval schema start end rows → documents rows ≤ most_documents →
     AreRows interval schema start end (shown_by interval schema rows)
 shown_rows None schema start end rows mapped are few = record {
   each = in_row_order-each (IsRowOf (raw_form schema)) rows are.each;
@@ -130,5 +131,5 @@ pub index_sound : (i : PlainIndex) → IsMapped i.facts.mapping.schema → IsInd
 index_sound i mapped sound = record {
   rows = shown_rows i.facts.interval i.facts.mapping.schema i.facts.start i.facts.end i.rows mapped sound.rows sound.few;
   distinct = shown_distinct i.facts.interval i.facts.mapping.schema i.rows (cells_of i sound) sound.distinct;
-  few = subst (λ k. k ≤ 16777216) (sym (shown_documents i.facts.interval i.facts.mapping.schema i.rows (cells_of i sound))) sound.few;
+  few = subst (λ k. k ≤ most_documents) (sym (shown_documents i.facts.interval i.facts.mapping.schema i.rows (cells_of i sound))) sound.few;
 }

@@ -22,8 +22,9 @@ use Rattle.stream_catalog.proofs.NamedLemmas.{some_is}
 use Rattle.stream_catalog.proofs.ChangeLemmas.{index_named-see}
 use Rattle.stream_catalog.proofs.CatalogLemmas.{held_of, sound_of}
 use Rattle.stream_catalog.proofs.SeenLemmas.{some_ms, either_of, down_rows, shown_in_order, cells_of}
+use Rattle.row_cells.specs.Limits.{most_documents}
 
-shown_fit : (interval : Option Interval) (blocked : Bool) (schema : Schema) (start end : ℤ) (rows : List Row) → IsKind interval blocked schema → IsMapped schema → AreRows interval schema start end rows → documents rows ≤ 16777216 →
+shown_fit : (interval : Option Interval) (blocked : Bool) (schema : Schema) (start end : ℤ) (rows : List Row) → IsKind interval blocked schema → IsMapped schema → AreRows interval schema start end rows → documents rows ≤ most_documents →
     Each (IsRowOf schema) (shown_by interval schema rows)
 shown_fit None blocked schema start end rows kind mapped are few =
     let same : raw_form schema ≡ schema = ap (λ b. record schema { folded = b }) (sym kind.0) in

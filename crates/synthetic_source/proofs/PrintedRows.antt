@@ -30,6 +30,7 @@ use Rattle.synthetic_source.specs.Normal.{whole_data, scalar_data, list_data, pa
 use Rattle.synthetic_source.proofs.Printable.{IsPrintableNumber, IsPrintable, ArePrintable}
 use Rattle.synthetic_source.specs.PrintedLaws.{parts_of, AreShallow, HasSmallSums, HaveSmallSums}
 use Rattle.synthetic_source.proofs.PrintedLevels.{AreTexts, AreWithin, level_printable, level_depth}
+use Rattle.row_cells.specs.Limits.{most_documents}
 
 -- ---- single values
 
@@ -237,7 +238,7 @@ fields_sound folded rises n time (f ∷ fs) [] is paths shallow fit small = absu
 fields_sound folded rises n time (f ∷ fs) (c ∷ cs) is paths shallow fit small =
     role_sound f.role time f c (shown_of time fs cs) is paths.0.text shallow.0 (cell_printable folded rises f.kind f.role n c fit.0 small.0) (fields_sound folded rises n time fs cs is paths.1 shallow.1 fit.1 small.1)
 
-count_sound : (folded : Bool) (count : ℕ) → count ≤ 16777216 → AreSound (count_shown folded count)
+count_sound : (folded : Bool) (count : ℕ) → count ≤ most_documents → AreSound (count_shown folded count)
 count_sound false count few = (tt, tt)
 count_sound true count few = ((IsUtf8-are_ascii _ refl, omega arith, tt), (omega arith, tt))
 

@@ -7,7 +7,7 @@ ghost use Rattle.serde_json.specs.View.{view};
 ghost use Rattle.ts_mapping.specs.Roles as roles;
 ghost use Rattle.synthetic_source.specs.Gathered.{by_field, place_of, slot_leaves};
 
-use edge_face::NoMemory;
+use edge_face::{NoMemory, bytes_order};
 use row_cells::{Field, FieldType};
 use serde_json::Value;
 use std::alloc::Global;
@@ -44,7 +44,7 @@ pub fn find_field(fields: &[Field], path: &[u8], guess: usize) -> Option<usize>
 fn compare_path(field: &Field, path: &[u8]) -> Ordering
     ensures { result ≡ slice_cmp nat_cmp field.now.path path.now }
 {
-    field.path.as_bytes().cmp(path)
+    bytes_order(field.path.as_bytes(), path)
 }
 
 /// The place of the field of a path.

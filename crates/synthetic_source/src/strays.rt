@@ -19,7 +19,7 @@ ghost use Rattle.synthetic_source.specs.Walked.{comes_first as is_first, least_s
 
 use crate::errors::DocKind;
 use crate::gathering::search_field;
-use edge_face::NoMemory;
+use edge_face::{NoMemory, bytes_order};
 use row_cells::{Field, LONGEST_PATH};
 use std::alloc::Global;
 use std::cmp::Ordering;
@@ -181,7 +181,7 @@ fn shared_front(path: &[u8], other: &[u8], known: usize) -> usize
 fn order(path: &[u8], other: &[u8]) -> Ordering
     ensures { result ≡ slice_cmp nat_cmp path.now other.now }
 {
-    path.cmp(other)
+    bytes_order(path, other)
 }
 
 // Whether a path stands before another with which it shares a front.

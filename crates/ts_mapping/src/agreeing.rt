@@ -4,6 +4,7 @@ ghost use Rattle.std.specs.List.{list_any};
 ghost use Rattle.row_cells.specs.Fitting.{FieldsAscend};
 ghost use Rattle.ts_mapping.specs.Agreeing as spec;
 
+use edge_face::bytes_order;
 use row_cells::{Field, FieldType, Role};
 use std::cmp::Ordering;
 
@@ -46,7 +47,7 @@ fn from_path<'a>(path: &[u8], fields: &'a [Field]) -> &'a [Field]
     ensures { result.now ≡ spec.from_path path.now fields.now }
 {
     for (place, field) in fields.iter().enumerate() {
-        match field.path.as_bytes().cmp(path) {
+        match bytes_order(field.path.as_bytes(), path) {
             Ordering::Less => {}
             Ordering::Equal | Ordering::Greater => return fields.split_at(place).1,
         }

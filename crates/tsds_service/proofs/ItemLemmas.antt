@@ -31,6 +31,7 @@ use Rattle.tsds_service.specs.Bulk.{Outcome, taken, barred, by_place, by_key, by
 use Rattle.tsds_service.specs.Causes.{ItemCause, conflict, full, blocked, outside, no_stream, no_object}
 use Rattle.tsds_service.proofs.CatalogLaws.{CatalogLaws}
 use Rattle.tsds_service.proofs.PickLemmas.{picked_open}
+use Rattle.row_cells.specs.Limits.{most_documents}
 
 -- ---- look-ups in lists of indices
 
@@ -66,7 +67,7 @@ module _ (laws : CatalogLaws) where
       let place : has_place row.key row.time (see_index i).rows ≡ has_place row.key row.time i.rows = ap (has_place row.key row.time) shown ∙ laws.rows.place row.key row.time i.rows in
       let number : length (see_index i).rows ≡ length i.rows = ap length shown ∙ laws.rows.number i.rows in
       ap (λ b. if b then barred (conflict (id_of row.key row.time)) else (if is_full (see_index i).rows then barred (full n) else taken n row)) place
-      ∙ ap (λ k. if has_place row.key row.time i.rows then barred (conflict (id_of row.key row.time)) else (if nat_le 16777216 k then barred (full n) else taken n row)) number
+      ∙ ap (λ k. if has_place row.key row.time i.rows then barred (conflict (id_of row.key row.time)) else (if nat_le most_documents k then barred (full n) else taken n row)) number
 
   key-see : (n : List ℕ) (i : PlainIndex) (time : ℤ) (cells : List Cell) (key : Result (List ℕ) KeyError) → i.facts.interval ≡ None → by_key n (see_index i) time cells key ≡ by_key n i time cells key
   key-see n i time cells (Ok key) raw = place-see n i (record { key = key; time = time; count = 1; cells = cells }) raw
