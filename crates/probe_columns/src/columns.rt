@@ -6,6 +6,7 @@ use column_block::{Column, ColumnError, ColumnKind, Numbers, ReadColumn, Texts, 
 use edge_face::Text;
 use fold_law::Parts;
 use probe_case::{Trial, part, put_sweep, turn};
+use row_cells::MOST_DOCUMENTS;
 use serde_json::Value;
 use std::alloc::Global;
 
@@ -23,7 +24,7 @@ pub fn kind_of(case: &Value, trial: &mut Trial) -> Option<ColumnKind> {
 /// How many rows the column of a case has.
 pub fn rows_of(case: &Value, trial: &mut Trial) -> Option<u32> {
     let rows = trial.number(case, "rows");
-    if rows < 0 || rows > 16_777_216 {
+    if rows < 0 || rows as u64 > MOST_DOCUMENTS {
         return None;
     }
     Some(rows as u32)

@@ -3,7 +3,7 @@ use crate::rows::{case_rows, row_of, schema_at};
 use crate::shown::ok_row;
 use edge_face::bytes_order;
 use probe_case::{Trial, is_set, number_or, part};
-use row_cells::{Cell, Schema, copy_row, fit_cells, head_row};
+use row_cells::{Cell, MOST_DOCUMENTS, Schema, copy_row, fit_cells, head_row};
 use serde_json::Value;
 use series_id::are_rows_of;
 use std::alloc::Global;
@@ -73,7 +73,7 @@ pub fn orders(case: &Value, trial: &mut Trial) -> Option<()> {
 
 fn put_fit(case: &Value, schema: &Schema, cells: &[Cell], trial: &mut Trial) -> Option<()> {
     let documents = trial.number(case, "count");
-    if documents < 1 || documents > 16_777_216 {
+    if documents < 1 || documents as u64 > MOST_DOCUMENTS {
         return None;
     }
     let (folded, rises) = (is_set(case, "folded"), is_set(case, "rises"));
