@@ -66,7 +66,7 @@ fn do_event<P: Keeper, M: Player<P>, K: Sink>(
     let reply = machine.act(alloc, heard, keeper)?;
     print_some(&reply, text)?;
     put_reply(sink, text.as_slice())?;
-    machine.go_on(opening)?;
+    machine.go_on(alloc, opening)?;
     Ok(())
 }
 
@@ -83,6 +83,7 @@ pub fn run<P: Keeper, M: Player<P>, S: Source, K: Sink>(
     requires suited { M.suits machine.old (P.path keeper.old) (P.table keeper.old) }
     ensures done { OnOk result (PutWhole M.play (stands machine.old (P.table keeper.old)) (stands machine.new (P.table keeper.new))
         (S.left source.old) (S.left source.new) (K.given sink.old) (K.given sink.new)) }
+    ensures suited { OnOk result (M.suits machine.new (P.path keeper.new) (P.table keeper.new)) }
     ensures refused { IfErr result (λ e. EndsBy M.play (stands machine.old (P.table keeper.old)) (stands machine.new (P.table keeper.new)) e
         (S.left source.old) (S.left source.new) (K.given sink.old) (K.given sink.new)) }
     ensures read { result ≡ Err RunError.Read → Rose (S.faults source.old) (S.faults source.new) }
