@@ -22,6 +22,7 @@ fn put_reply<K: Sink>(sink: &mut K, reply: &[u8]) -> Result<(), RunError>
     ensures write { IfErr result (λ e. e ≡ RunError.Write) }
     ensures caused { OnErr result (Rose (K.faults sink.old) (K.faults sink.new)) }
     ensures faults { K.faults sink.old ≤ K.faults sink.new }
+    ensures beside { K.beside sink.new ≡ K.beside sink.old }
 {
     match put_all(sink, reply) {
         Ok(()) => Ok(()),
@@ -59,6 +60,7 @@ fn do_event<P: Keeper, M: Player<P>, K: Sink>(
     ensures write { result ≡ Err RunError.Write → Rose (K.faults sink.old) (K.faults sink.new) }
     ensures keeper_faults { P.faults keeper.old ≤ P.faults keeper.new }
     ensures sink_faults { K.faults sink.old ≤ K.faults sink.new }
+    ensures beside { K.beside sink.new ≡ K.beside sink.old }
     ensures path { P.path keeper.new ≡ P.path keeper.old }
 {
     let opening = heard.opening;
@@ -92,6 +94,8 @@ pub fn run<P: Keeper, M: Player<P>, S: Source, K: Sink>(
     ensures faults { S.faults source.old ≤ S.faults source.new }
     ensures keeper_faults { P.faults keeper.old ≤ P.faults keeper.new }
     ensures sink_faults { K.faults sink.old ≤ K.faults sink.new }
+    ensures source_beside { S.beside source.new ≡ S.beside source.old }
+    ensures sink_beside { K.beside sink.new ≡ K.beside sink.old }
     ensures path { P.path keeper.new ≡ P.path keeper.old }
 {
     let mut reader = LineReader::new(alloc)?;
