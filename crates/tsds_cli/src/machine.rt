@@ -377,7 +377,7 @@ impl<P: Keeper> Player<P> for Machine {
     }
 
     #[tactic(auto, unfolding(crate::specs::Documents::unit))]
-    fn go_on(&mut self, opening: Opening) -> Result<(), NoMemory> {
+    fn go_on(&mut self, _alloc: Global, opening: Opening) -> Result<(), NoMemory> {
         match opening {
             Opening::Moment | Opening::Request => Ok(()),
         }

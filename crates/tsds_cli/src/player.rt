@@ -48,7 +48,7 @@ pub trait Player<P: Keeper> {
         ensures path { P.path keeper.new ≡ P.path keeper.old };
 
     /// Makes the unit behind an event that was opened so, where it has one. Without memory nothing is changed.
-    fn go_on(&mut self, opening: Opening) -> Result<(), NoMemory>
+    fn go_on(&mut self, alloc: Global, opening: Opening) -> Result<(), NoMemory>
         ensures after { OnOk result (self.new ≡ rest_of opening self.old) }
         ensures suited { OnOk result ((path : Option (List ℕ)) (table : Option Table) → suits self.old path table → suits self.new path table) }
         ensures refused { OnErr result (self.new ≡ self.old) };

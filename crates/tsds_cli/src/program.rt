@@ -75,6 +75,10 @@ pub fn top<S: Source, K: Sink>(alloc: Global, words: &[String], source: &mut S, 
     ensures complete { (script : List ℕ) → S.left source.old ≡ Some script → is_too_long script ≡ false → is_run (map string_bytes words.now) ≡ true
         → (Rose (S.faults source.old) (S.faults source.new) → ⊥) → (Rose (K.faults sink.old) (K.faults sink.new) → ⊥) → (result ≡ 0) ⊎ (result ≡ 3) }
 
+    // The counts of faults never fall.
+    ensures faults { S.faults source.old ≤ S.faults source.new }
+    ensures sink_faults { K.faults sink.old ≤ K.faults sink.new }
+
     ensures usage { (result ≡ 2) ↔ (is_run (map string_bytes words.now) ≡ false) }
     ensures untouched { result ≡ 2 → (source.new ≡ source.old) × (sink.new ≡ sink.old) }
 {

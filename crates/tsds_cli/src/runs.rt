@@ -22,6 +22,7 @@ fn put_reply<K: Sink>(sink: &mut K, reply: &[u8]) -> Result<(), RunError>
     ensures write { IfErr result (λ e. e ≡ RunError.Write) }
     ensures caused { OnErr result (Rose (K.faults sink.old) (K.faults sink.new)) }
     ensures faults { K.faults sink.old ≤ K.faults sink.new }
+    ensures beside { K.beside sink.new ≡ K.beside sink.old }
 {
     match put_all(sink, reply) {
         Ok(()) => Ok(()),
@@ -59,6 +60,7 @@ fn do_event<P: Keeper, M: Player<P>, K: Sink>(
     ensures write { result ≡ Err RunError.Write → Rose (K.faults sink.old) (K.faults sink.new) }
     ensures keeper_faults { P.faults keeper.old ≤ P.faults keeper.new }
     ensures sink_faults { K.faults sink.old ≤ K.faults sink.new }
+    ensures beside { K.beside sink.new ≡ K.beside sink.old }
     ensures path { P.path keeper.new ≡ P.path keeper.old }
 {
     let opening = heard.opening;
@@ -66,7 +68,7 @@ fn do_event<P: Keeper, M: Player<P>, K: Sink>(
     let reply = machine.act(alloc, heard, keeper)?;
     print_some(&reply, text)?;
     put_reply(sink, text.as_slice())?;
-    machine.go_on(opening)?;
+    machine.go_on(alloc, opening)?;
     Ok(())
 }
 
@@ -83,6 +85,7 @@ pub fn run<P: Keeper, M: Player<P>, S: Source, K: Sink>(
     requires suited { M.suits machine.old (P.path keeper.old) (P.table keeper.old) }
     ensures done { OnOk result (PutWhole M.play (stands machine.old (P.table keeper.old)) (stands machine.new (P.table keeper.new))
         (S.left source.old) (S.left source.new) (K.given sink.old) (K.given sink.new)) }
+    ensures suited { OnOk result (M.suits machine.new (P.path keeper.new) (P.table keeper.new)) }
     ensures refused { IfErr result (λ e. EndsBy M.play (stands machine.old (P.table keeper.old)) (stands machine.new (P.table keeper.new)) e
         (S.left source.old) (S.left source.new) (K.given sink.old) (K.given sink.new)) }
     ensures read { result ≡ Err RunError.Read → Rose (S.faults source.old) (S.faults source.new) }
@@ -91,6 +94,8 @@ pub fn run<P: Keeper, M: Player<P>, S: Source, K: Sink>(
     ensures faults { S.faults source.old ≤ S.faults source.new }
     ensures keeper_faults { P.faults keeper.old ≤ P.faults keeper.new }
     ensures sink_faults { K.faults sink.old ≤ K.faults sink.new }
+    ensures source_beside { S.beside source.new ≡ S.beside source.old }
+    ensures sink_beside { K.beside sink.new ≡ K.beside sink.old }
     ensures path { P.path keeper.new ≡ P.path keeper.old }
 {
     let mut reader = LineReader::new(alloc)?;

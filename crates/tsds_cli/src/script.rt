@@ -99,6 +99,7 @@ fn next_opening<S: Source>(
     ensures onward { IfOk result (λ found. IfSome found (λ _. (reader.old.answered < reader.new.answered) × (reader.new.answered ≤ input_limit))) }
     ensures read { result ≡ Err RunError.Read → Rose (S.faults source.old) (S.faults source.new) }
     ensures faults { S.faults source.old ≤ S.faults source.new }
+    ensures beside { S.beside source.new ≡ S.beside source.old }
 {
     'lines: loop {
         let piece = reader.find_line(source)?;
@@ -159,6 +160,7 @@ fn read_body<S: Source>(
     ensures onward { OnOk result (reader.old.answered ≤ reader.new.answered) }
     ensures read { result ≡ Err RunError.Read → Rose (S.faults source.old) (S.faults source.new) }
     ensures faults { S.faults source.old ≤ S.faults source.new }
+    ensures beside { S.beside source.new ≡ S.beside source.old }
 {
     heard.body.clear();
     'lines: loop {
@@ -193,6 +195,7 @@ pub fn next_event<S: Source>(
     ensures onward { result ≡ Ok true → (reader.old.answered < reader.new.answered) × (reader.old.answered < input_limit) }
     ensures read { result ≡ Err RunError.Read → Rose (S.faults source.old) (S.faults source.new) }
     ensures faults { S.faults source.old ≤ S.faults source.new }
+    ensures beside { S.beside source.new ≡ S.beside source.old }
 {
     match next_opening(reader, source, &mut heard.line)? {
         None => Ok(false),

@@ -17,6 +17,8 @@ events-init g c =
       counted = omega arith;
       counted_keeper = omega arith;
       counted_sink = omega arith;
+      source_beside = refl;
+      sink_beside = refl;
       path = refl;
     }
 
@@ -55,5 +57,7 @@ events-preserved g c =
       counted = omega arith;
       counted_keeper = omega arith;
       counted_sink = omega arith;
+      source_beside = c.next_event.ensures.beside ∙ c.events.invariant.source_beside;
+      sink_beside = c.do_event.ensures.beside ∙ c.events.invariant.sink_beside;
       path = c.do_event.ensures.path ∙ c.events.invariant.path;
     }

@@ -16,6 +16,8 @@ invariant-events g l = record {
   counted : g.S.Source.faults l.fn.source ≤ g.S.Source.faults l.source;
   counted_keeper : g.P.Keeper.faults l.fn.keeper ≤ g.P.Keeper.faults l.keeper;
   counted_sink : g.K.Sink.faults l.fn.sink ≤ g.K.Sink.faults l.sink;
+  source_beside : g.S.Source.beside l.source ≡ g.S.Source.beside l.fn.source;
+  sink_beside : g.K.Sink.beside l.sink ≡ g.K.Sink.beside l.fn.sink;
   path : g.P.Keeper.path l.keeper ≡ g.P.Keeper.path l.fn.keeper;
 }
 

@@ -32,5 +32,6 @@ lines-preserved g c =
           (ap is_skipped (sym c.line-line.ensures) ∙ sym c.is_skipped.ensures ∙ c.if-not-is_skipped.false) c.pass-in-lines.ensures);
       fine = ap (λ (r : Reading). r.refused) c.pass-in-lines.ensures ∙ c.in_ok-piece.ensures.found.fine;
       knows = λ e. c.find_line.ensures.knows (sym (ap (λ (r : Reading). r.ended) c.pass-in-lines.ensures) ∙ e);
+      beside = c.find_line.ensures.beside ∙ c.lines.invariant.beside;
       counted = omega arith;
     }

@@ -11,6 +11,7 @@ invariant-lines g l = record {
   passed : Passed between [] between l.fn.reader l.reader (g.S.Source.left l.fn.source) (g.S.Source.left l.source);
   fine : l.reader.refused ≡ None;
   knows : KnowsEnd l.reader.ended (g.S.Source.left l.source);
+  beside : g.S.Source.beside l.source ≡ g.S.Source.beside l.fn.source;
   counted : g.S.Source.faults l.fn.source ≤ g.S.Source.faults l.source;
 }
 

@@ -55,5 +55,6 @@ lines-preserved g c =
       short = c.in_ok-add_line.ensures.short;
       fine = ap (λ (r : Reading). r.refused) c.pass-in-lines.ensures ∙ c.in_ok-piece.ensures.found.fine;
       knows = λ e. c.find_line.ensures.knows (sym (ap (λ (r : Reading). r.ended) c.pass-in-lines.ensures) ∙ e);
+      beside = c.find_line.ensures.beside ∙ c.lines.invariant.beside;
       counted = omega arith;
     }

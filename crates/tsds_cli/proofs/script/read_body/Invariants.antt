@@ -14,6 +14,7 @@ invariant-lines g l = record {
   short : length l.heard.body.items ≤ body_limit;
   fine : l.reader.refused ≡ None;
   knows : KnowsEnd l.reader.ended (g.S.Source.left l.source);
+  beside : g.S.Source.beside l.source ≡ g.S.Source.beside l.fn.source;
   counted : g.S.Source.faults l.fn.source ≤ g.S.Source.faults l.source;
 }
 
