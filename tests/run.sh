@@ -26,21 +26,41 @@ tell() {
     fi
 }
 
-# Adds the sum 'N passed, M failed' at the end of what a part wrote into a file; a part without one is a failure.
+# How many cases a table has: its lines but comments and empty ones.
+cases_of() {
+    grep -Evc '^(#|[[:space:]]*$)' "$1"
+}
+
+# Adds the sum 'N passed, M failed' at the end of what a table's run wrote into a file; a sum that isn't there, or isn't that of the
+# table's cases, is a failure.
 add() {
     local good word bad
     if read -r good word bad _ < <(grep -E '^[0-9]+ passed, [0-9]+ failed$' "$1" | tail -n 1); then
         passed=$((passed + good))
         failed=$((failed + bad))
         echo "$2: $good $word $bad failed"
+        [ $((good + bad)) -eq "$(cases_of "$work/cases/$2")" ] || tell 1 "$2 wasn't run whole"
     else
         tell 1 "$2 gave no sum"
     fi
 }
 
+# Each table has the number of cases that the list says, and each is on the list.
+check_tables() {
+    local name number table
+    while read -r name number; do
+        [ "$(cases_of "tests/cases/$name.cases" 2> /dev/null)" = "$number" ]
+        tell $? "$name.cases hasn't $number cases"
+    done < <(grep -v '^#' tests/cases/NUMBERS)
+    for table in tests/cases/*.cases; do
+        name=${table##*/}
+        grep -q "^${name%.cases} " tests/cases/NUMBERS || tell 1 "$name isn't on the list"
+    done
+}
+
 # Whether a program stands proved, and no code has changed since.
 is_proved() {
-    [ -x "crates/$1/out/$1" ] && [ -z "$(find crates -name out -prune -o -name '*.rt' -newer "crates/$1/out/$1" -print -quit)" ]
+    [ -x "crates/$1/out/$1" ] && [ -z "$(find crates crates.txt -name out -prune -o \( -name '*.rt' -o -name '*.antt' -o -name crates.txt \) -newer "crates/$1/out/$1" -print -quit)" ]
 }
 
 # Whether a program that doesn't is made unproved. Under the gate it is a failure.
@@ -73,6 +93,7 @@ run_tables() {
     done
 }
 
+check_tables
 # Unproved programs are compiled with checks and without optimisation. There the sweeps over all bytes of segments and the scripts
 # of 64 MiB are left out, which would take minutes.
 heavy='^{"call":"damaged_segment"|"times":104857[67],'
