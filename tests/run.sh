@@ -26,9 +26,9 @@ tell() {
     fi
 }
 
-# How many cases a table has: its lines but comments and empty ones.
+# How many cases a table has: its lines with a call and its answer. Others are empty, comments, or name a template.
 cases_of() {
-    grep -Evc '^(#|[[:space:]]*$)' "$1"
+    grep -c '^[^#].* => ' "$1"
 }
 
 # Adds the sum 'N passed, M failed' at the end of what a table's run wrote into a file; a sum that isn't there, or isn't that of the
@@ -58,7 +58,7 @@ check_tables() {
     done
 }
 
-# Whether a program stands proved, and no code has changed since.
+# Whether a program stands proved, and no code and no proof has changed since.
 is_proved() {
     [ -x "crates/$1/out/$1" ] && [ -z "$(find crates crates.txt -name out -prune -o \( -name '*.rt' -o -name '*.antt' -o -name crates.txt \) -newer "crates/$1/out/$1" -print -quit)" ]
 }
