@@ -193,21 +193,24 @@ interval_bytes by =
     let digits = length-decimal-le 15 by.number (omega arith) small wide in
     (joined (decimal by.number) (unit_text by.unit) (digits_bytes (decimal by.number) (digits_decimal own by.number wide)) unit.0, omega (arith, long, digits, unit.1))
 
-plain : (rest : List ℕ) → AreBytes rest → length rest ≤ 140 → is_index_name (codes "downsample-" ++ rest) ≡ true
-unfolding is_index_name are_name_bytes
-plain rest bytes short = both (le-leb (length (codes "downsample-" ++ rest)) 160 (omega (arith, short))) (first (list_all is_name_byte rest) bytes)
-  where
-    first : (v : Bool) → v ≡ true → (v || is_hidden_name (codes "downsample-" ++ rest)) ≡ true
-    first true is = refl
-    first false is = cc
+plain : (rest : List ℕ) → AreBytes rest → length rest ≤ 140 → is_target_name (codes "downsample-" ++ rest) ≡ true
+unfolding is_target_name are_name_bytes
+plain rest bytes short = both (le-leb (length (codes "downsample-" ++ rest)) 160 (omega (arith, short))) bytes
 
-pub fold_named : (by : Interval) (origin : List ℕ) → IsOrigin origin → is_index_name (downsample_name by origin) ≡ true
+pub fold_named : (by : Interval) (origin : List ℕ) → IsOrigin origin → is_target_name (downsample_name by origin) ≡ true
 fold_named by origin is =
     let text = origin_text origin is in
     let interval = interval_bytes by in
     let middle = interval_text by.number by.unit in
     let long = length-append middle (codes "-" ++ origin) in
     plain (middle ++ (codes "-" ++ origin)) (joined middle (codes "-" ++ origin) interval.0 (joined (codes "-") origin refl text.0)) (omega (arith, long, interval.1, text.1))
+
+pub fold_long : (by : Interval) (origin : List ℕ) → IsOrigin origin → length (downsample_name by origin) ≤ 151
+fold_long by origin is =
+    let text = origin_text origin is in
+    let interval = interval_bytes by in
+    let long = length-append (interval_text by.number by.unit) (codes "-" ++ origin) in
+    omega (arith, long, interval.1, text.1)
 
 -- the name of a target is one of an index
 pub target_named : (name : List ℕ) → is_target_name name ≡ true → is_index_name name ≡ true

@@ -1,5 +1,5 @@
 -- The laws that tie a plain catalogue to what is seen of it.
-use Rattle.std.specs.Prelude.{◌≡◌, ℕ, ℤ, ◌++◌, Bool, true, false, List, ◌∷◌, map, length, Option, None, Some, IsTrue}
+use Rattle.std.specs.Prelude.{◌≡◌, ℕ, ℤ, ◌≤◌, ◌++◌, Bool, true, false, List, ◌∷◌, map, length, Option, None, Some, IsTrue}
 use Rattle.std.specs.List.{slice_get}
 use Rattle.std.specs.Option.{option_map}
 use Rattle.row_cells.specs.declared.rows.Row.{Row}
@@ -13,6 +13,7 @@ use Rattle.time_text.specs.Interval.{ms_of}
 use Rattle.downsample_fold.specs.Direct.{down}
 use Rattle.downsample_fold.specs.Laws.{series_of}
 use Rattle.downsample_fold.specs.Places.{rows_of}
+use Rattle.index_names.specs.Backing.{downsample_name}
 use Rattle.index_names.specs.Names.{is_stream_name, is_target_name}
 use Rattle.lifecycle_swap.specs.Lifecycles.{IsLifecycle}
 use Rattle.lifecycle_swap.specs.declared.lifecycles.Lifecycle.{Lifecycle}
@@ -30,7 +31,7 @@ use Rattle.stream_catalog.specs.Moves.{moves_refusal, moved_by, moved_all}
 use Rattle.stream_catalog.specs.Puts.{MayPut, put_into}
 use Rattle.stream_catalog.specs.Rounds.{Running, lifecycle_run}
 use Rattle.stream_catalog.specs.Units.{unit_of}
-use Rattle.stream_catalog.specs.WellNamed.{IsWellNamed}
+use Rattle.stream_catalog.specs.WellNamed.{IsOrigin, IsWellNamed}
 use Rattle.stream_catalog.specs.Sound.{times, IsHeld, IsIndexSound, IsSoundCatalog, IsSeenCatalog}
 
 -- what is seen of a sound catalogue is sound, and seen again itself
@@ -181,6 +182,8 @@ pub record NamesKeep : Type 0 where
   pub moves : (c : PlainCatalog) (moves : List Move) → IsWellNamed c → IsWellNamed (moved_all c moves)
   pub units : (way : Way) (c : PlainCatalog) → IsWellNamed c → IsWellNamed (unit_of way c)
   pub runs : (c : PlainCatalog) (now : ℤ) → IsWellNamed c → IsWellNamed (lifecycle_run c now).catalog
+  -- what a lifecycle folds to has the name of a target, of 151 bytes at most
+  pub folds : (by : Interval) (origin : List ℕ) → IsOrigin origin → IsTrue (is_target_name (downsample_name by origin)) × (length (downsample_name by origin) ≤ 151)
 
 -- ---- sound catalogues stay sound
 
