@@ -13,6 +13,7 @@ use Rattle.std.proofs.lemmas.Str.Parse.{IsNumeralModel, numerals_by_value, tells
 use Rattle.index_names.specs.Backing.{six_digits, behind_stream, backing_name, downsample_name}
 use Rattle.index_names.specs.BackingLaws.{behind_long}
 use Rattle.index_names.specs.Names.{is_letter_or_digit, is_name_byte, are_name_bytes, is_plain_name, is_hidden_name, is_stream_name, is_target_name, is_index_name}
+use Rattle.time_text.specs.Count.{longest}
 use Rattle.time_text.specs.Day.{last_where, year_of, month_of, day_of_month}
 use Rattle.time_text.specs.Interval.{interval_text}
 use Rattle.time_text.specs.Printed.{day_text, two_digits, four_digits}
@@ -177,7 +178,7 @@ unit_bytes M = (refl, omega arith)
 unit_bytes H = (refl, omega arith)
 unit_bytes D = (refl, omega arith)
 
-number_small : (n : ℕ) (unit : IntervalUnit) → n * unit_ms unit ≤ 253402300799999 → n < 10 ^ 15
+number_small : (n : ℕ) (unit : IntervalUnit) → n * unit_ms unit ≤ longest → n < 10 ^ 15
 number_small n Ms le = omega (arith, le)
 number_small n S le = omega (arith, le)
 number_small n M le = omega (arith, le)
