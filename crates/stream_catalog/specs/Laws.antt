@@ -1,5 +1,5 @@
 -- The laws that tie a plain catalogue to what is seen of it.
-use Rattle.std.specs.Prelude.{◌≡◌, ℕ, ℤ, ◌≤◌, ◌++◌, Bool, true, false, List, ◌∷◌, map, length, Option, None, Some, IsTrue}
+use Rattle.std.specs.Prelude.{◌≡◌, ℕ, ℤ, ◌≤◌, ◌<◌, ◌+◌, ◌++◌, Bool, true, false, List, ◌∷◌, map, length, Option, None, Some, IsTrue}
 use Rattle.std.specs.List.{slice_get}
 use Rattle.std.specs.Option.{option_map}
 use Rattle.row_cells.specs.declared.rows.Row.{Row}
@@ -26,11 +26,11 @@ use Rattle.stream_catalog.specs.Plain.{PlainIndex, PlainStream, PlainCatalog, Pl
 use Rattle.stream_catalog.specs.Ways.{Way, plain_way, seen_way, see_index, see_catalog, task_schema, kept_rows}
 use Rattle.stream_catalog.specs.Lists.{stream_named, index_named}
 use Rattle.stream_catalog.specs.Streams.{template_refusal, template_put, create_refusal, created, stream_deleted, life_set, write_name, next_name, rollover_refusal, rolled_over}
-use Rattle.stream_catalog.specs.Indices.{task_index, blocked_in, delete_refusal, downsample_refusal, downsampled, index_deleted}
+use Rattle.stream_catalog.specs.Indices.{task_index, folded_index, blocked_in, delete_refusal, downsample_refusal, downsampled, index_deleted}
 use Rattle.stream_catalog.specs.Moves.{moves_refusal, moved_by, moved_all}
 use Rattle.stream_catalog.specs.Puts.{MayPut, put_into}
 use Rattle.stream_catalog.specs.Rounds.{Running, lifecycle_run}
-use Rattle.stream_catalog.specs.Units.{unit_of}
+use Rattle.stream_catalog.specs.Units.{with_renamed, unit_of}
 use Rattle.stream_catalog.specs.WellNamed.{IsOrigin, IsWellNamed}
 use Rattle.stream_catalog.specs.Sound.{times, IsHeld, IsIndexSound, IsSoundCatalog, IsSeenCatalog}
 
@@ -155,6 +155,23 @@ UnitsGoOn = (c : PlainCatalog) (task t : TaskFacts) (ts : List TaskFacts) (i : P
 abbrev pub UnitsEnd : Type 0
 UnitsEnd = (c : PlainCatalog) (task : TaskFacts) (i j : PlainIndex) (key : List ℕ) → IsSoundCatalog c → IsNext c task i key →
     index_named task.target (unit_of plain_way c).indices ≡ Some j → (see_index j).rows ≡ kept_rows task i ++ series_rows task i key
+
+-- a task with more than one series to go counts one of them, and all else stays
+abbrev pub UnitsCount : Type 0
+UnitsCount = (c : PlainCatalog) (task : TaskFacts) (rest : List TaskFacts) (i : PlainIndex) → c.tasks ≡ task ∷ rest → index_named task.index c.indices ≡ Some i →
+    task.done + 1 < length (series_of i.rows) → unit_of plain_way c ≡ record c { tasks = record task { done = task.done + 1 } ∷ rest }
+
+-- its fold is there in the place of its index, in streams too, and the task is gone
+pub record IsFinished (c : PlainCatalog) (task : TaskFacts) (rest : List TaskFacts) (i : PlainIndex) : Type 0 where
+  pub tasks : (unit_of plain_way c).tasks ≡ rest
+  pub there : index_named task.target (unit_of plain_way c).indices ≡ Some (folded_index plain_way task.target task.rises task.by i)
+  pub gone : index_named task.index (unit_of plain_way c).indices ≡ None
+  pub streams : (unit_of plain_way c).streams ≡ map (with_renamed task.index task.target) c.streams
+
+-- so it is behind a unit where one series was left, or none
+abbrev pub UnitsFinish : Type 0
+UnitsFinish = (c : PlainCatalog) (task : TaskFacts) (rest : List TaskFacts) (i : PlainIndex) → IsSoundCatalog c → c.tasks ≡ task ∷ rest → index_named task.index c.indices ≡ Some i →
+    length (series_of i.rows) ≤ task.done + 1 → IsFinished c task rest i
 
 -- the window of a new write index begins where that of the one before it ends
 abbrev pub RolloversJoin : Type 0
