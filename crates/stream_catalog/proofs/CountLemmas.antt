@@ -13,6 +13,7 @@ use Rattle.std.proofs.lemmas.Map.Lookups.{exact_bytes}
 use Rattle.row_cells.specs.Each.{Each}
 use Rattle.row_cells.specs.EachLaws.{Each-weaker}
 use Rattle.row_cells.specs.Dimensions.{IsBefore}
+use Rattle.row_cells.specs.JoinLaws.{before_chain}
 use Rattle.downsample_fold.specs.Laws.{KeysAscend}
 use Rattle.stream_catalog.specs.Lists.{named, updated, inserted, without}
 use Rattle.stream_catalog.specs.Sound.{times}
@@ -132,9 +133,6 @@ apart_of a n xs none some = false_from_ne_true (bytes_eq a n) (λ is. zero_some 
     zero_some : times n xs ≡ 0 → ⊥
     zero_some none_there = omega (arith, none_there, some)
 
-IsBefore-chain : (p q r : List ℕ) → IsBefore p q → IsBefore q r → IsBefore p r
-IsBefore-chain = nat_list_cmp_total.trans
-
 pub other_head : (x : List ℕ) (y : List ℕ) (ys : List (List ℕ)) → times x (y ∷ ys) ≡ 0 → (bytes_eq y x ≡ false) × (times x ys ≡ 0)
 other_head x y ys none = by_test (bytes_eq y x) refl none
   where
@@ -163,7 +161,7 @@ module _ {A : Type 0} (name : A → List ℕ) where
 
       by_order : (o : Ordering) → slice_cmp nat_cmp (name x) (name y) ≡ o → bytes_eq (name y) (name x) ≡ false → KeysAscend (map name (inserted name x ys)) → KeysAscend (map name (if is_le o then x ∷ y ∷ ys else y ∷ inserted name x ys))
       by_order Less is other later =
-          ((is, Each-weaker (IsBefore (name y)) (IsBefore (name x)) (λ n before. IsBefore-chain (name x) (name y) n is before) (map name ys) ascend.0), ascend)
+          ((is, Each-weaker (IsBefore (name y)) (IsBefore (name x)) (λ n before. before_chain (name x) (name y) n is before) (map name ys) ascend.0), ascend)
       by_order Equal is other later = absurd (both_ways (bytes_eq (name y) (name x)) other ((bytes_eq-Decides (name y) (name x)).1 (sym (exact_bytes (name x) (name y) is))))
       by_order Greater is other later = (ascend_above (name y) ys ascend.0 x (greater_before is), later)
 

@@ -25,5 +25,6 @@ mod MoveLemmas
 mod RunLemmas
 mod PlanLemmas
 mod AfterLemmas
+mod FinishLemmas
 mod NameLemmas
 mod NamedKeptLemmas

@@ -13,6 +13,7 @@ use Rattle.std.proofs.lemmas.Str.Parse.{IsNumeralModel, numerals_by_value, tells
 use Rattle.index_names.specs.Backing.{six_digits, behind_stream, backing_name, downsample_name}
 use Rattle.index_names.specs.BackingLaws.{behind_long}
 use Rattle.index_names.specs.Names.{is_letter_or_digit, is_name_byte, are_name_bytes, is_plain_name, is_hidden_name, is_stream_name, is_target_name, is_index_name}
+use Rattle.time_text.specs.Count.{longest}
 use Rattle.time_text.specs.Day.{last_where, year_of, month_of, day_of_month}
 use Rattle.time_text.specs.Interval.{interval_text}
 use Rattle.time_text.specs.Printed.{day_text, two_digits, four_digits}
@@ -177,7 +178,7 @@ unit_bytes M = (refl, omega arith)
 unit_bytes H = (refl, omega arith)
 unit_bytes D = (refl, omega arith)
 
-number_small : (n : ℕ) (unit : IntervalUnit) → n * unit_ms unit ≤ 253402300799999 → n < 10 ^ 15
+number_small : (n : ℕ) (unit : IntervalUnit) → n * unit_ms unit ≤ longest → n < 10 ^ 15
 number_small n Ms le = omega (arith, le)
 number_small n S le = omega (arith, le)
 number_small n M le = omega (arith, le)
@@ -193,21 +194,24 @@ interval_bytes by =
     let digits = length-decimal-le 15 by.number (omega arith) small wide in
     (joined (decimal by.number) (unit_text by.unit) (digits_bytes (decimal by.number) (digits_decimal own by.number wide)) unit.0, omega (arith, long, digits, unit.1))
 
-plain : (rest : List ℕ) → AreBytes rest → length rest ≤ 140 → is_index_name (codes "downsample-" ++ rest) ≡ true
-unfolding is_index_name are_name_bytes
-plain rest bytes short = both (le-leb (length (codes "downsample-" ++ rest)) 160 (omega (arith, short))) (first (list_all is_name_byte rest) bytes)
-  where
-    first : (v : Bool) → v ≡ true → (v || is_hidden_name (codes "downsample-" ++ rest)) ≡ true
-    first true is = refl
-    first false is = cc
+plain : (rest : List ℕ) → AreBytes rest → length rest ≤ 140 → is_target_name (codes "downsample-" ++ rest) ≡ true
+unfolding is_target_name are_name_bytes
+plain rest bytes short = both (le-leb (length (codes "downsample-" ++ rest)) 160 (omega (arith, short))) bytes
 
-pub fold_named : (by : Interval) (origin : List ℕ) → IsOrigin origin → is_index_name (downsample_name by origin) ≡ true
+pub fold_named : (by : Interval) (origin : List ℕ) → IsOrigin origin → is_target_name (downsample_name by origin) ≡ true
 fold_named by origin is =
     let text = origin_text origin is in
     let interval = interval_bytes by in
     let middle = interval_text by.number by.unit in
     let long = length-append middle (codes "-" ++ origin) in
     plain (middle ++ (codes "-" ++ origin)) (joined middle (codes "-" ++ origin) interval.0 (joined (codes "-") origin refl text.0)) (omega (arith, long, interval.1, text.1))
+
+pub fold_long : (by : Interval) (origin : List ℕ) → IsOrigin origin → length (downsample_name by origin) ≤ 151
+fold_long by origin is =
+    let text = origin_text origin is in
+    let interval = interval_bytes by in
+    let long = length-append (interval_text by.number by.unit) (codes "-" ++ origin) in
+    omega (arith, long, interval.1, text.1)
 
 -- the name of a target is one of an index
 pub target_named : (name : List ℕ) → is_target_name name ≡ true → is_index_name name ≡ true

@@ -32,7 +32,7 @@ use Rattle.stream_catalog.specs.Rounds.{Running, ends_at, extended, deleted, new
 use Rattle.stream_catalog.specs.Units.{with_renamed, swapped, next_done, advanced_at, unit_from, unit_of}
 use Rattle.stream_catalog.specs.WellNamed.{IsOrigin, IsTemplateNamed, IsStreamNamed, IsIndexNamed, IsTaskNamed, IsWellNamed}
 use Rattle.stream_catalog.proofs.NamedLemmas.{each_found, each_updated, each_inserted}
-use Rattle.stream_catalog.proofs.NameLemmas.{backing_named, fold_named, target_named}
+use Rattle.stream_catalog.proofs.NameLemmas.{backing_named, fold_named, fold_long, target_named}
 use Rattle.stream_catalog.proofs.RollLemmas.{each_end, may_roll}
 use Rattle.stream_catalog.proofs.ChangeLemmas.{facts_named-facts}
 use Rattle.stream_catalog.specs.Laws.{NamesKeep}
@@ -211,7 +211,7 @@ unit_named way c is = by_tasks c.tasks is.tasks
     by_last task ts i named one true = record {
       templates = is.templates;
       streams = each_mapped IsStreamNamed IsStreamNamed (with_renamed i.facts.name task.target) (λ s so. so) c.streams is.streams;
-      indices = each_inserted index_name IsIndexNamed (folded_index way task.target task.rises task.by i) (without index_name i.facts.name c.indices) (named.0, one.1)
+      indices = each_inserted index_name IsIndexNamed (folded_index way task.target task.rises task.by i) (without index_name i.facts.name c.indices) (target_named task.target named.0, one.1)
           (Each-filter IsIndexNamed (λ k. not (bytes_eq (index_name k) i.facts.name)) c.indices is.indices);
       tasks = named.1;
     }
@@ -285,4 +285,5 @@ names_keep = record {
   moves = moved_all_named;
   units = unit_named;
   runs = run_named;
+  folds = λ by origin is. (fold_named by origin is, fold_long by origin is);
 }

@@ -5,16 +5,12 @@ use Rattle.std.proofs.Math.Nat.{mul-le-mul_left, dvd_iff_mod-eq-zero}
 use Rattle.std.proofs.lemmas.Bool.{cases_lt}
 use Rattle.std.proofs.lemmas.Int.{ints}
 use Rattle.std.proofs.lemmas.Nat.Gcd.{dvd_trans}
-use Rattle.row_cells.specs.declared.schemas.FieldType.{FieldType}
-use Rattle.row_cells.specs.declared.schemas.Role.{Role}
-use Rattle.row_cells.specs.declared.schemas.Role.TheVariants.{Time, Dimension, Gauge as GaugeRole, Counter, Label}
-use Rattle.row_cells.specs.declared.schemas.Field.{Field}
 use Rattle.row_cells.specs.declared.schemas.Schema.{Schema}
-use Rattle.row_cells.specs.declared.rows.Cell.{Cell}
 use Rattle.row_cells.specs.declared.rows.Row.{Row}
 use Rattle.row_cells.specs.Each.{Each}
 use Rattle.row_cells.specs.EachLaws.{Each-weaker, Each-both}
-use Rattle.row_cells.specs.Fitting.{CellFits, CellsFit, folded_form}
+use Rattle.row_cells.specs.Fitting.{folded_form}
+use Rattle.row_cells.specs.FormLaws.{raw_fits}
 use Rattle.time_text.specs.declared.intervals.Interval.{Interval}
 use Rattle.time_text.specs.Bucket.{bucket_start}
 use Rattle.time_text.specs.Instant.{IsInstant}
@@ -77,29 +73,9 @@ divides_on d m n some low high = (dvd_iff_mod-eq-zero d).0 (dvd_trans d ((dvd_if
 
 -- ---- a raw row fits whatever mark its schema has
 
-raw_cell : (a b : Bool) (kind : FieldType) (role : Role) (documents : ℕ) (cell : Cell) → CellFits false a kind role documents cell → CellFits false b kind role documents cell
-raw_cell a b kind Time documents cell fits = fits
-raw_cell a b kind Dimension documents cell fits = fits
-raw_cell a b kind GaugeRole documents cell fits = fits
-raw_cell a b kind Counter documents cell fits = fits
-raw_cell a b kind Label documents cell fits = fits
-
-raw_cells : (a b : Bool) (documents : ℕ) (fs : List Field) (cs : List Cell) → CellsFit false a documents fs cs → CellsFit false b documents fs cs
-raw_cells a b documents [] [] fits = tt
-raw_cells a b documents [] (c ∷ cs) fits = absurd fits
-raw_cells a b documents (f ∷ fs) [] fits = absurd fits
-raw_cells a b documents (f ∷ fs) (c ∷ cs) fits = (raw_cell a b f.kind f.role documents c fits.0, raw_cells a b documents fs cs fits.1)
-
 raw_row : (s : Schema) (b : Bool) (row : Row) → IsRowOf (raw_form s) row → IsRowOf (record s { folded = false; rises = b }) row
 raw_row s b row r = record {
-  fits = record {
-    cells_fit = raw_cells s.rises b row.count s.fields row.cells r.fits.cells_fit;
-    key_is = r.fits.key_is;
-    instant = r.fits.instant;
-    counted = r.fits.counted;
-    count_within = r.fits.count_within;
-    alone = r.fits.alone;
-  };
+  fits = raw_fits s s.rises b row r.fits;
   keyed = record { routed = r.keyed.routed; short = r.keyed.short };
   short = r.short;
 }

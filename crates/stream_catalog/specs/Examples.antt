@@ -1,15 +1,19 @@
 -- The definitions on small machines, worked out: two rows in one index of two members.
-use Rattle.std.proofs.Common.{◌≡◌, Bool, ℕ, pos, List, [], ◌∷◌, Option, Some, None, true, false, refl, arith, codes, ◌≤◌, ◌*◌}
-use Rattle.std.specs.Prelude.{ℤ, map, length, Ok, Err}
+use Rattle.std.proofs.Common.{◌≡◌, Bool, ℕ, pos, List, [], ◌∷◌, Option, Some, None, true, false, refl, arith, codes, ◌≤◌, ◌*◌, ap}
+use Rattle.std.specs.Prelude.{ℤ, map, length, not, nat_le, ◌&&◌, Ok, Err}
+use Rattle.std.specs.Fmt.{digits}
+use Rattle.std.specs.Option.{is_some, option_map}
+use Rattle.edge_face.specs.Limits.{last_instant}
 use Rattle.row_cells.specs.declared.scalars.Scalar.TheVariants.{Whole, Word}
 use Rattle.row_cells.specs.declared.rows.Cell.TheVariants.{One}
 use Rattle.row_cells.specs.declared.rows.Row.{Row}
-use Rattle.row_cells.specs.declared.schemas.FieldType.TheVariants.{Keyword, Long}
-use Rattle.row_cells.specs.declared.schemas.Role.TheVariants.{Dimension, Counter}
+use Rattle.row_cells.specs.declared.schemas.FieldType.TheVariants.{Keyword, Long, Integer}
+use Rattle.row_cells.specs.declared.schemas.Role.TheVariants.{Dimension, Counter, Label}
 use Rattle.row_cells.specs.declared.schemas.Schema.{Schema}
 use Rattle.time_text.specs.declared.intervals.Interval.{Interval}
 use Rattle.time_text.specs.declared.units.Unit.TheVariants.{S}
 use Rattle.time_text.specs.Bucket.{bucket_start}
+use Rattle.time_text.specs.Count.{longest}
 use Rattle.time_text.specs.Printed.{day_text}
 use Rattle.index_names.specs.Backing.{backing_name, downsample_name}
 use Rattle.index_names.specs.Patterns.{pattern_takes}
@@ -17,18 +21,22 @@ use Rattle.downsample_fold.specs.Direct.{down}
 use Rattle.lifecycle_swap.specs.declared.lifecycles.Lifecycle.{Lifecycle}
 use Rattle.ts_mapping.specs.declared.templates.Mapping.{Mapping}
 use Rattle.ts_mapping.specs.declared.templates.Template.{Template}
-use Rattle.stream_catalog.specs.declared.answers.CatalogError.TheVariants.{IsWriteIndex, NotBlocked, NotMember, NameTaken}
+use Rattle.stream_catalog.specs.declared.answers.CatalogError.{CatalogError}
+use Rattle.stream_catalog.specs.declared.answers.CatalogError.TheVariants.{NoSuchName, NameTaken, NoTemplate, Reserved, IsWriteIndex, NotBlocked, NotMember, IsMember, OtherMapping, BadWindow, Limit, TimeOver, ChangedField}
+use Rattle.stream_catalog.specs.declared.answers.What.TheVariants.{Templates, Streams, Indices, Generations}
 use Rattle.stream_catalog.specs.declared.answers.PickError.TheVariants.{NoWindow, Blocked}
 use Rattle.stream_catalog.specs.declared.answers.Move.TheVariants.{Remove, Add}
 use Rattle.stream_catalog.specs.declared.facts.HeldIndex.{HeldIndex}
 use Rattle.stream_catalog.specs.declared.facts.TaskFacts.{TaskFacts}
-use Rattle.stream_catalog.specs.Plain.{PlainStream, PlainCatalog, facts_of}
+use Rattle.stream_catalog.specs.Plain.{PlainIndex, PlainStream, PlainCatalog, PlainFacts, facts_of}
 use Rattle.stream_catalog.specs.Ways.{plain_way, seen_way, see_catalog, kept_rows}
-use Rattle.stream_catalog.specs.Indices.{downsample_refusal, downsampled, delete_refusal, index_deleted}
+use Rattle.stream_catalog.specs.Indices.{block_refusal, downsample_refusal, folded_mapping, downsampled, delete_refusal, index_deleted}
+use Rattle.stream_catalog.specs.Lists.{when, first_of, template_name, template_named}
+use Rattle.stream_catalog.specs.Names.{most_templates, most_streams, most_indices, is_taken, template_for}
 use Rattle.stream_catalog.specs.Moves.{moves_refusal, moved_all}
 use Rattle.stream_catalog.specs.Puts.{put_into, picked_by}
 use Rattle.stream_catalog.specs.Rounds.{lifecycle_run}
-use Rattle.stream_catalog.specs.Streams.{created, stream_deleted, rolled_over}
+use Rattle.stream_catalog.specs.Streams.{template_refusal, create_refusal, first_name, created, named_refusal, stream_deleted, rollover_refusal, next_name, rolled_over}
 use Rattle.stream_catalog.specs.Units.{unit_of}
 
 abbrev schema : Schema
@@ -50,7 +58,7 @@ key host = 0 ∷ 4 ∷ 104 ∷ 111 ∷ 115 ∷ 116 ∷ 1 ∷ 0 ∷ 1 ∷ host �
 abbrev row_at : ℕ → ℕ → ℕ → Row
 row_at host time value = record { key = key host; time = pos time; count = 1; cells = One (Word (host ∷ [])) ∷ One (Whole (pos value)) ∷ [] }
 
-abbrev seconds : (n : ℕ) → 1 ≤ n * 1000 → n * 1000 ≤ 253402300799999 → Interval
+abbrev seconds : (n : ℕ) → 1 ≤ n * 1000 → n * 1000 ≤ longest → Interval
 seconds n some few = record { number = n; unit = S; in_range = (some, few) }
 
 abbrev second : Interval
@@ -307,3 +315,279 @@ run_all_blocked = refl
 pub kept_first : map (λ (r : Row). r.key) (kept_rows (task_of (codes "a") (codes "f") 1 true) (record { facts = old_facts true; rows = row_at 98 1100 3 ∷ row_at 97 1500 7 ∷ [] })) ≡ key 97 ∷ []
 unfolding down bucket_start
 kept_first = refl
+
+-- ---- the mark of a fold: whether its counters keep their rise
+
+abbrev marks : PlainCatalog → List Bool
+marks c = map (λ i. i.facts.mapping.schema.rises) c.indices
+
+-- a fold of raw rows rises; that of a folded index whose counters keep no rise doesn't
+abbrev risen_out : Option Lifecycle → PlainCatalog
+risen_out life = record (two true life []) {
+  indices = record { facts = record (old_facts true) { interval = Some second; mapping = folded_mapping false mapping }; rows = [] } ∷ record { facts = new_facts; rows = [] } ∷ [];
+}
+
+pub fold_rises : marks (downsampled plain_way (two true None []) (codes "a") (codes "c") second) ≡ true ∷ true ∷ true ∷ []
+fold_rises = refl
+
+pub fold_keeps_mark : marks (downsampled plain_way (risen_out None) (codes "a") (codes "c") (seconds 2 (omega arith) (omega arith))) ≡ false ∷ true ∷ false ∷ []
+fold_keeps_mark = refl
+
+-- so with the task that a lifecycle run starts on each, and with what takes the index's place
+abbrev task_marks : PlainCatalog → List Bool
+task_marks c = map (λ (t : TaskFacts). t.rises) c.tasks
+
+pub run_rises : task_marks (lifecycle_run (two true keeping []) (pos 15000)).catalog ≡ true ∷ []
+unfolding lifecycle_run
+run_rises = refl
+
+pub run_keeps_mark : task_marks (lifecycle_run (risen_out (keeping_later None)) (pos 15000)).catalog ≡ false ∷ []
+unfolding lifecycle_run
+run_keeps_mark = refl
+
+pub swap_keeps_mark : marks (unit_of plain_way (lifecycle_run (risen_out (keeping_later None)) (pos 15000)).catalog) ≡ true ∷ false ∷ []
+unfolding lifecycle_run unit_of
+swap_keeps_mark = refl
+
+-- ---- a unit on an index without rows: the fold takes its place at once, without rows
+
+abbrev folding_none : PlainCatalog
+folding_none = two true None (task_of (codes "b") (codes "g") 0 true ∷ [])
+
+pub unit_none : index_names (unit_of plain_way folding_none) ≡ codes "a" ∷ codes "g" ∷ []
+unfolding unit_of
+unit_none = refl
+
+pub unit_none_rows : numbers (unit_of plain_way folding_none) ≡ 2 ∷ 0 ∷ []
+unfolding unit_of
+unit_none_rows = refl
+
+pub unit_none_member : map (λ (s : PlainStream). s.facts.members) (unit_of plain_way folding_none).streams ≡ (codes "a" ∷ codes "g" ∷ []) ∷ []
+unfolding unit_of
+unit_none_member = refl
+
+pub unit_none_task : (unit_of plain_way folding_none).tasks ≡ []
+unfolding unit_of
+unit_none_task = refl
+
+-- ---- a run over two streams, with a task under way: streams go by their names, and new tasks stand behind those that are there
+
+abbrev other_stream : PlainStream
+other_stream = record { facts = record { name = codes "r"; template = codes "t"; generation = 2; members = codes "p" ∷ codes "q" ∷ [] }; life = keeping }
+
+abbrev other_facts : List ℕ → HeldIndex → HeldIndex
+other_facts name facts = record facts { name = name; origin = name }
+
+abbrev two_streams : PlainCatalog
+two_streams = record (two false keeping (task_of (codes "z") (codes "y") 0 true ∷ [])) {
+  streams = other_stream ∷ stream keeping ∷ [];
+  indices = record { facts = old_facts false; rows = [] } ∷ record { facts = new_facts; rows = [] } ∷ record { facts = other_facts (codes "p") (old_facts false); rows = [] }
+      ∷ record { facts = other_facts (codes "q") new_facts; rows = [] } ∷ record { facts = other_facts (codes "z") (old_facts true); rows = [] } ∷ [];
+}
+
+pub run_two : (lifecycle_run two_streams (pos 15000)).ran ≡ record { extended = 2; deleted = 0; started = 2 }
+unfolding lifecycle_run digits
+run_two = refl
+
+pub run_two_tasks : map (λ (t : TaskFacts). t.index) (lifecycle_run two_streams (pos 15000)).catalog.tasks ≡ codes "z" ∷ codes "p" ∷ codes "a" ∷ []
+unfolding lifecycle_run digits
+run_two_tasks = refl
+
+pub run_two_streams : map (λ (s : PlainStream). s.facts.name) (lifecycle_run two_streams (pos 15000)).catalog.streams ≡ codes "r" ∷ codes "s" ∷ []
+unfolding lifecycle_run digits
+run_two_streams = refl
+
+-- ---- the template of a new stream: the greatest priority, and of those the least name, wherever it stands
+
+abbrev template_of : List ℕ → ℕ → List ℕ → Template
+template_of name priority pattern = record template { name = name; priority = priority; patterns = pattern ∷ [] }
+
+abbrev chosen : List Template → Option (List ℕ)
+chosen ts = option_map template_name (template_for (codes "s") ts)
+
+pub chosen_greater : chosen (template_of (codes "a") 1 (codes "s") ∷ template_of (codes "b") 2 (codes "s") ∷ []) ≡ Some (codes "b")
+unfolding pattern_takes
+chosen_greater = refl
+
+pub chosen_least : chosen (template_of (codes "a") 2 (codes "s") ∷ template_of (codes "b") 2 (codes "s") ∷ []) ≡ Some (codes "a")
+unfolding pattern_takes
+chosen_least = refl
+
+pub chosen_least_behind : chosen (template_of (codes "b") 2 (codes "s") ∷ template_of (codes "a") 2 (codes "s") ∷ []) ≡ Some (codes "a")
+unfolding pattern_takes
+chosen_least_behind = refl
+
+-- one that doesn't match isn't asked
+pub chosen_matching : chosen (template_of (codes "a") 1 (codes "s") ∷ template_of (codes "b") 2 (codes "x") ∷ []) ≡ Some (codes "a")
+unfolding pattern_takes
+chosen_matching = refl
+
+-- ---- each refusal of a new stream, in order; where two hold the first one is told
+
+abbrev at_present : PlainFacts → List ℕ → Option CatalogError
+at_present f name = create_refusal f name (pos 15000)
+
+pub create_taken : at_present (facts_of (two false None [])) (codes "s") ≡ Some (NameTaken (codes "s"))
+create_taken = refl
+
+pub create_taken_first : at_present (facts_of (two true None (task_of (codes "a") (codes "downsample-x") 0 true ∷ []))) (codes "downsample-x") ≡ Some (NameTaken (codes "downsample-x"))
+create_taken_first = refl
+
+-- reserved, though no template takes it either
+pub create_reserved : at_present (facts_of streamless) (codes "downsample-x") ≡ Some Reserved
+create_reserved = refl
+
+pub create_without : at_present (facts_of streamless) (codes "x") ≡ Some NoTemplate
+unfolding pattern_takes
+create_without = refl
+
+-- no template is told whatever the numbers of streams and indices are
+pub create_without_first : (f : PlainFacts) → is_taken (codes "x") f ≡ false → is_some (template_for (codes "x") f.templates) ≡ false → at_present f (codes "x") ≡ Some NoTemplate
+create_without_first f free none = rw (free, none) refl
+
+-- too many streams, whatever the number of indices is; too many indices, whether or not the first one's name is taken
+pub create_many_streams : (f : PlainFacts) → is_taken (codes "s") f ≡ false → is_some (template_for (codes "s") f.templates) ≡ true → nat_le most_streams (length f.streams) ≡ true →
+    at_present f (codes "s") ≡ Some (Limit Streams)
+create_many_streams f free there full = rw (free, there, full) refl
+
+pub create_many_indices : (f : PlainFacts) → is_taken (codes "s") f ≡ false → is_some (template_for (codes "s") f.templates) ≡ true → nat_le most_streams (length f.streams) ≡ false →
+    nat_le most_indices (length f.indices) ≡ true → at_present f (codes "s") ≡ Some (Limit Indices)
+create_many_indices f free there room full = rw (free, there, room, full) refl
+
+pub create_first_taken : (f : PlainFacts) → is_taken (codes "s") f ≡ false → is_some (template_for (codes "s") f.templates) ≡ true → nat_le most_streams (length f.streams) ≡ false →
+    nat_le most_indices (length f.indices) ≡ false → is_taken (first_name (codes "s") (pos 15000)) f ≡ true → at_present f (codes "s") ≡ Some (NameTaken (first_name (codes "s") (pos 15000)))
+create_first_taken f free there few room taken = rw (free, there, few, room, taken) refl
+
+pub create_free : at_present (facts_of streamless) (codes "s") ≡ None
+unfolding pattern_takes backing_name day_text
+create_free = refl
+
+-- ---- each refusal of a rollover
+
+abbrev rolling : ℤ → ℕ → List HeldIndex → PlainFacts
+rolling end generation is = record (facts_of (two false None [])) {
+  streams = record { facts = record { name = codes "s"; template = codes "t"; generation = generation; members = codes "b" ∷ [] }; life = None } ∷ [];
+  indices = record new_facts { end = end } ∷ is;
+}
+
+abbrev roll : PlainFacts → Option CatalogError
+roll f = rollover_refusal f (codes "s") (pos 15000)
+
+pub roll_nowhere : rollover_refusal (facts_of (two false None [])) (codes "b") (pos 15000) ≡ Some (NoSuchName (codes "b"))
+roll_nowhere = refl
+
+-- no time is left, also where no generation is
+pub roll_over : (is : List HeldIndex) → roll (rolling last_instant 999_999 is) ≡ Some TimeOver
+roll_over is = refl
+
+-- no generation is left, however many indices there are
+pub roll_generations : (is : List HeldIndex) → roll (rolling (pos 20000) 999_999 is) ≡ Some (Limit Generations)
+roll_generations is = refl
+
+-- too many indices, whatever their names
+pub roll_indices : (is : List HeldIndex) → nat_le most_indices (length (record new_facts { end = pos 20000 } ∷ is)) ≡ true → roll (rolling (pos 20000) 999_998 is) ≡ Some (Limit Indices)
+roll_indices is full = rw full refl
+
+pub roll_taken : (is : List HeldIndex) → nat_le most_indices (length (record new_facts { end = pos 20000 } ∷ is)) ≡ false →
+    is_taken (next_name (stream None) (pos 15000)) (rolling (pos 20000) 2 is) ≡ true → roll (rolling (pos 20000) 2 is) ≡ Some (NameTaken (next_name (stream None) (pos 15000)))
+roll_taken is room taken = rw (room, taken) refl
+
+pub roll_free : roll (rolling (pos 20000) 2 []) ≡ None
+unfolding backing_name day_text
+roll_free = refl
+
+-- ---- each refusal of a member that is put into a stream
+
+-- beside the two members of s an index in no stream, and one in a stream of its own
+abbrev beside : List ℕ → ℤ → ℤ → PlainFacts
+beside template start end = record (facts_of (two true None [])) {
+  streams = stream None ∷ record { facts = record { name = codes "v"; template = codes "u"; generation = 1; members = codes "w" ∷ [] }; life = None } ∷ [];
+  indices = old_facts true ∷ new_facts ∷ record (old_facts true) { name = codes "l"; template = template; start = start; end = end } ∷ record (old_facts false) { name = codes "w"; template = codes "u" } ∷ [];
+}
+
+abbrev add : List ℕ → List ℕ → PlainFacts → Option CatalogError
+add stream index f = moves_refusal f (Add stream index ∷ [])
+
+pub add_nowhere : add (codes "x") (codes "y") (beside (codes "t") (pos 20000) (pos 30000)) ≡ Some (NoSuchName (codes "x"))
+add_nowhere = refl
+
+pub add_nothing : add (codes "s") (codes "y") (beside (codes "t") (pos 20000) (pos 30000)) ≡ Some (NoSuchName (codes "y"))
+add_nothing = refl
+
+pub add_own : add (codes "s") (codes "a") (beside (codes "t") (pos 20000) (pos 30000)) ≡ Some (IsMember (codes "s") (codes "a"))
+add_own = refl
+
+-- a member of another stream, also where it is of another template
+pub add_of_other : add (codes "s") (codes "w") (beside (codes "t") (pos 20000) (pos 30000)) ≡ Some (IsMember (codes "v") (codes "w"))
+add_of_other = refl
+
+-- of another template, also where its window doesn't fit
+pub add_mapped : add (codes "s") (codes "l") (beside (codes "u") (pos 0) (pos 1)) ≡ Some (OtherMapping (codes "s") (codes "l"))
+add_mapped = refl
+
+-- a window that overlaps a member's by one instant, and one behind the write index's
+pub add_overlap : add (codes "s") (codes "l") (beside (codes "t") (pos 9999) (pos 10000)) ≡ Some (BadWindow (codes "s") (codes "l"))
+add_overlap = refl
+
+pub add_behind : add (codes "s") (codes "l") (beside (codes "t") (pos 20000) (pos 30000)) ≡ Some (BadWindow (codes "s") (codes "l"))
+add_behind = refl
+
+pub take_nowhere : moves_refusal (beside (codes "t") (pos 0) (pos 1)) (Remove (codes "x") (codes "a") ∷ []) ≡ Some (NoSuchName (codes "x"))
+take_nowhere = refl
+
+-- ---- each refusal of a template
+
+-- the fields of hosts and of counts under other types or roles
+abbrev remapped : List ℕ → Schema → Template
+remapped name other = record template { name = name; schema = other }
+
+abbrev other_count : Schema
+other_count = record schema { fields = record { path = codes "host"; kind = Keyword; role = Dimension } ∷ record { path = codes "req"; kind = Integer; role = Counter } ∷ [] }
+
+abbrev other_both : Schema
+other_both = record schema { fields = record { path = codes "host"; kind = Keyword; role = Label } ∷ record { path = codes "req"; kind = Integer; role = Counter } ∷ [] }
+
+-- the first index of its name is told, and of two paths the least
+pub put_changed : template_refusal (facts_of (two false None [])) (remapped (codes "t") other_count) ≡ Some (ChangedField (codes "req") (codes "a"))
+put_changed = refl
+
+pub put_changed_least : template_refusal (facts_of (two false None [])) (remapped (codes "t") other_both) ≡ Some (ChangedField (codes "host") (codes "a"))
+put_changed_least = refl
+
+-- a changed field is told before a limit
+pub put_changed_first : (ts : List Template) → template_refusal (record (facts_of (two false None [])) { templates = ts }) (remapped (codes "t") other_count) ≡ Some (ChangedField (codes "req") (codes "a"))
+put_changed_first ts = refl
+
+-- another name may map the path as it likes
+pub put_other : template_refusal (facts_of (two false None [])) (remapped (codes "u") other_both) ≡ None
+put_other = refl
+
+-- a new one past the limit; one that is there may always be replaced
+pub put_many : (ts : List Template) → option_map template_name (template_named (codes "u") ts) ≡ None → nat_le most_templates (length ts) ≡ true →
+    template_refusal (record (facts_of streamless) { templates = ts }) (remapped (codes "u") schema) ≡ Some (Limit Templates)
+put_many ts none full = by_found (template_named (codes "u") ts) none
+  where
+    by_found : (o : Option Template) → option_map template_name o ≡ None → first_of (when (not (is_some o) && nat_le most_templates (length ts)) (Limit Templates) ∷ []) ≡ Some (Limit Templates)
+    by_found None none = rw full refl
+    by_found (Some t) none = cc
+
+pub put_again : (ts : List Template) → template_refusal (record (facts_of streamless) { templates = template ∷ ts }) (remapped (codes "t") schema) ≡ None
+put_again ts = refl
+
+-- ---- names that nothing has
+
+pub no_stream : named_refusal (facts_of (two false None [])) (codes "a") ≡ Some (NoSuchName (codes "a"))
+no_stream = refl
+
+pub no_index : block_refusal (facts_of (two false None [])) (codes "s") ≡ Some (NoSuchName (codes "s"))
+no_index = refl
+
+pub delete_nothing : delete_refusal (facts_of (two false None [])) (codes "s") ≡ Some (NoSuchName (codes "s"))
+delete_nothing = refl
+
+pub fold_of_nothing : downsample_refusal (facts_of (two false None [])) (codes "s") (codes "b") second ≡ Some (NoSuchName (codes "s"))
+fold_of_nothing = refl
+
+-- a reserved name, also of a write index's fold
+pub fold_reserved : downsample_refusal (facts_of (two false None [])) (codes "b") (codes "downsample-c") second ≡ Some Reserved
+fold_reserved = refl

@@ -1,5 +1,5 @@
 -- The laws that tie a plain catalogue to what is seen of it.
-use Rattle.std.specs.Prelude.{◌≡◌, ℕ, ℤ, ◌++◌, Bool, true, false, List, ◌∷◌, map, length, Option, None, Some, IsTrue}
+use Rattle.std.specs.Prelude.{◌≡◌, ℕ, ℤ, ◌≤◌, ◌<◌, ◌+◌, ◌++◌, Bool, true, false, List, ◌∷◌, map, length, Option, None, Some, IsTrue}
 use Rattle.std.specs.List.{slice_get}
 use Rattle.std.specs.Option.{option_map}
 use Rattle.row_cells.specs.declared.rows.Row.{Row}
@@ -13,6 +13,7 @@ use Rattle.time_text.specs.Interval.{ms_of}
 use Rattle.downsample_fold.specs.Direct.{down}
 use Rattle.downsample_fold.specs.Laws.{series_of}
 use Rattle.downsample_fold.specs.Places.{rows_of}
+use Rattle.index_names.specs.Backing.{downsample_name}
 use Rattle.index_names.specs.Names.{is_stream_name, is_target_name}
 use Rattle.lifecycle_swap.specs.Lifecycles.{IsLifecycle}
 use Rattle.lifecycle_swap.specs.declared.lifecycles.Lifecycle.{Lifecycle}
@@ -25,12 +26,12 @@ use Rattle.stream_catalog.specs.Plain.{PlainIndex, PlainStream, PlainCatalog, Pl
 use Rattle.stream_catalog.specs.Ways.{Way, plain_way, seen_way, see_index, see_catalog, task_schema, kept_rows}
 use Rattle.stream_catalog.specs.Lists.{stream_named, index_named}
 use Rattle.stream_catalog.specs.Streams.{template_refusal, template_put, create_refusal, created, stream_deleted, life_set, write_name, next_name, rollover_refusal, rolled_over}
-use Rattle.stream_catalog.specs.Indices.{task_index, blocked_in, delete_refusal, downsample_refusal, downsampled, index_deleted}
+use Rattle.stream_catalog.specs.Indices.{task_index, folded_index, blocked_in, delete_refusal, downsample_refusal, downsampled, index_deleted}
 use Rattle.stream_catalog.specs.Moves.{moves_refusal, moved_by, moved_all}
 use Rattle.stream_catalog.specs.Puts.{MayPut, put_into}
 use Rattle.stream_catalog.specs.Rounds.{Running, lifecycle_run}
-use Rattle.stream_catalog.specs.Units.{unit_of}
-use Rattle.stream_catalog.specs.WellNamed.{IsWellNamed}
+use Rattle.stream_catalog.specs.Units.{with_renamed, unit_of}
+use Rattle.stream_catalog.specs.WellNamed.{IsOrigin, IsWellNamed}
 use Rattle.stream_catalog.specs.Sound.{times, IsHeld, IsIndexSound, IsSoundCatalog, IsSeenCatalog}
 
 -- what is seen of a sound catalogue is sound, and seen again itself
@@ -155,6 +156,23 @@ abbrev pub UnitsEnd : Type 0
 UnitsEnd = (c : PlainCatalog) (task : TaskFacts) (i j : PlainIndex) (key : List ℕ) → IsSoundCatalog c → IsNext c task i key →
     index_named task.target (unit_of plain_way c).indices ≡ Some j → (see_index j).rows ≡ kept_rows task i ++ series_rows task i key
 
+-- a task with more than one series to go counts one of them, and all else stays
+abbrev pub UnitsCount : Type 0
+UnitsCount = (c : PlainCatalog) (task : TaskFacts) (rest : List TaskFacts) (i : PlainIndex) → c.tasks ≡ task ∷ rest → index_named task.index c.indices ≡ Some i →
+    task.done + 1 < length (series_of i.rows) → unit_of plain_way c ≡ record c { tasks = record task { done = task.done + 1 } ∷ rest }
+
+-- its fold is there in the place of its index, in streams too, and the task is gone
+pub record IsFinished (c : PlainCatalog) (task : TaskFacts) (rest : List TaskFacts) (i : PlainIndex) : Type 0 where
+  pub tasks : (unit_of plain_way c).tasks ≡ rest
+  pub there : index_named task.target (unit_of plain_way c).indices ≡ Some (folded_index plain_way task.target task.rises task.by i)
+  pub gone : index_named task.index (unit_of plain_way c).indices ≡ None
+  pub streams : (unit_of plain_way c).streams ≡ map (with_renamed task.index task.target) c.streams
+
+-- so it is behind a unit where one series was left, or none
+abbrev pub UnitsFinish : Type 0
+UnitsFinish = (c : PlainCatalog) (task : TaskFacts) (rest : List TaskFacts) (i : PlainIndex) → IsSoundCatalog c → c.tasks ≡ task ∷ rest → index_named task.index c.indices ≡ Some i →
+    length (series_of i.rows) ≤ task.done + 1 → IsFinished c task rest i
+
 -- the window of a new write index begins where that of the one before it ends
 abbrev pub RolloversJoin : Type 0
 RolloversJoin = (c : PlainCatalog) (name : List ℕ) (now : ℤ) (s : PlainStream) (w n : PlainIndex) → rollover_refusal (facts_of c) name now ≡ None →
@@ -181,6 +199,8 @@ pub record NamesKeep : Type 0 where
   pub moves : (c : PlainCatalog) (moves : List Move) → IsWellNamed c → IsWellNamed (moved_all c moves)
   pub units : (way : Way) (c : PlainCatalog) → IsWellNamed c → IsWellNamed (unit_of way c)
   pub runs : (c : PlainCatalog) (now : ℤ) → IsWellNamed c → IsWellNamed (lifecycle_run c now).catalog
+  -- what a lifecycle folds to has the name of a target, of 151 bytes at most
+  pub folds : (by : Interval) (origin : List ℕ) → IsOrigin origin → IsTrue (is_target_name (downsample_name by origin)) × (length (downsample_name by origin) ≤ 151)
 
 -- ---- sound catalogues stay sound
 

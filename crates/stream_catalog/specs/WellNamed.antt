@@ -2,7 +2,7 @@
 use Rattle.std.specs.Prelude.{ℕ, ℤ, List, IsTrue}
 use Rattle.row_cells.specs.Each.{Each}
 use Rattle.index_names.specs.Backing.{IsBackingOf}
-use Rattle.index_names.specs.Names.{is_stream_name, is_index_name}
+use Rattle.index_names.specs.Names.{is_stream_name, is_target_name, is_index_name}
 use Rattle.ts_mapping.specs.declared.templates.Template.{Template}
 use Rattle.stream_catalog.specs.declared.facts.TaskFacts.{TaskFacts}
 use Rattle.stream_catalog.specs.Plain.{PlainIndex, PlainStream, PlainCatalog}
@@ -24,8 +24,9 @@ IsStreamNamed s = IsTrue (is_stream_name s.facts.name)
 abbrev pub IsIndexNamed : PlainIndex → Type 0
 IsIndexNamed i = IsTrue (is_index_name i.facts.name) × IsOrigin i.facts.origin
 
+-- what a task folds to has the name of a target, which begins with a letter or a digit
 abbrev pub IsTaskNamed : TaskFacts → Type 0
-IsTaskNamed t = IsTrue (is_index_name t.target)
+IsTaskNamed t = IsTrue (is_target_name t.target)
 
 -- each name is well formed, also those that running tasks are going to give
 pub record IsWellNamed (c : PlainCatalog) : Type 0 where

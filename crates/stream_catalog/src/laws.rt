@@ -1,6 +1,6 @@
 //! The laws that tie a plain catalogue to what is seen of it, for crates above.
 ghost use Rattle.stream_catalog.specs.Laws.{FoundIsSound, Keeps, LookupsStay, PutsKeepShowing, SoundShows, SeenAgain, FactsStay, ChangesGoThrough, RunsGoThrough, PutsGoThrough, RowTestsStay, SeriesStay, DownsamplesGoThrough, UnitsGoThrough, TasksKeep, ShownRows};
-ghost use Rattle.stream_catalog.specs.Laws.{FoundIsHeld, FoundAgree, UnitsGoOn, NamesKeep, UnitsEnd, RolloversJoin, RemovalsEndTasks};
+ghost use Rattle.stream_catalog.specs.Laws.{FoundIsHeld, FoundAgree, UnitsGoOn, NamesKeep, UnitsEnd, UnitsCount, UnitsFinish, RolloversJoin, RemovalsEndTasks};
 ghost use Rattle.stream_catalog.specs.Laws.{BlocksKeepSound, CreationsKeepSound, DeletionsKeepSound, DownsamplesKeepSound, LivesKeepSound, MovesKeepSound, PutsKeepSound, RolloversKeepSound, RunsKeepSound, StreamDeletionsKeepSound, TemplatesKeepSound, UnitsKeepSound};
 
 /// What is seen of a sound catalogue is sound, and seen again itself.
@@ -45,10 +45,13 @@ pub fn tasks_keep()
     ensures { TasksKeep }
 {}
 
-/// A unit folds one series more of the oldest task's index; with the last one its fold takes the index's place.
+/// A unit folds one series more of the oldest task's index; with the last one, or where there is none, its fold takes the
+/// index's place.
 pub fn units_go_on()
     ensures more { UnitsGoOn }
     ensures last { UnitsEnd }
+    ensures counts { UnitsCount }
+    ensures finishes { UnitsFinish }
 {}
 
 /// The windows of a stream's write indices join one another.

@@ -13,7 +13,7 @@ use Rattle.row_cells.specs.Each.{Each}
 use Rattle.stream_catalog.specs.Ways.{plain_way, seen_way}
 use Rattle.time_text.specs.Instant.{IsInstant, in_range, instant_of, written_of}
 use Rattle.tsds_service.specs.Causes.{refused, request_cause}
-use Rattle.tsds_service.specs.Laws.{SeenAgain, StepsRefine, UnitsRefine, StepsKeepSound, UnitsKeepSound, IsSoundStanding, IsSeenStanding, MessagesRefine, MomentsAreInstants, TurnAlike, TurnsRefine, TurnStands, TurnsStand}
+use Rattle.tsds_service.specs.Laws.{SeenAgain, StepsRefine, UnitsRefine, StepsKeepSound, UnitsKeepSound, IsSoundStanding, IsSeenStanding, IsSoundWritten, IsSeenWritten, MessagesRefine, MomentsAreInstants, TurnAlike, TurnsRefine, TurnStands, TurnsStand}
 use Rattle.tsds_service.specs.Machine.{Machine, see, IsSound}
 use Rattle.tsds_service.specs.Messages.{Told, see_told, told_of, told_by, message_told, moment_by, moment_told}
 use Rattle.tsds_service.specs.Questions.{Asking}
@@ -123,6 +123,38 @@ module _ (again : SeenAgain) (steps : StepsRefine) (units : UnitsRefine) (steps_
   turn-sound s (says text) sound is = record { machine = sound.machine; present = moment_instant s.present text sound.present }
   turn-sound s works sound is = record { machine = units_keep s.machine sound.machine; present = sound.present }
 
+  -- ---- what is written
+
+  if-sound : (b : Bool) (m : Machine) → IsSound m → IsSoundWritten (written_if b m)
+  if-sound true m sound = sound
+  if-sound false m sound = tt
+
+  turn-written : (s : Standing) (t : Turn) → IsSoundStanding s → IsTurn t → IsSoundWritten (turned asking plain_way s t).written
+  turn-written s (asks message now) sound is =
+      let stepped = step asking plain_way s.machine message now in
+      if-sound stepped.wrote stepped.machine (steps_keep asking s.machine message now sound.machine is.0 is.1)
+  turn-written s (sends method target body) sound short =
+      let told = message_told asking plain_way s.machine s.present method target body in
+      if-sound told.wrote told.stepped (message-stepped s.machine s.present method target body sound.machine sound.present short)
+  turn-written s (says text) sound is = tt
+  turn-written s works sound is = tt
+
+  or-sound : (o before : Option Machine) → IsSoundWritten o → IsSoundWritten before → IsSoundWritten (option_or o before)
+  or-sound None before is was = was
+  or-sound (Some m) before is was = is
+
+  seen-written : (o : Option Machine) → IsSoundWritten o → IsSeenWritten (option_map see o)
+  seen-written None is = tt
+  seen-written (Some m) is = again m is
+
+  written-sound : (o : Option Machine) → IsSeenWritten o → IsSoundWritten o
+  written-sound None is = tt
+  written-sound (Some m) is = is.sound
+
+  written-again : (o : Option Machine) → IsSeenWritten o → option_map see o ≡ o
+  written-again None is = refl
+  written-again (Some m) is = ap (λ (n : Machine). Some n) is.again
+
   -- ---- many
 
   or-see : (o before : Option Machine) → option_or (option_map see o) (option_map see before) ≡ option_map see (option_or o before)
@@ -130,7 +162,7 @@ module _ (again : SeenAgain) (steps : StepsRefine) (units : UnitsRefine) (steps_
   or-see (Some m) before = refl
 
   turns-alike : (s : Standing) (ts : List Turn) (before : Option Machine) → IsSoundStanding s → Each IsTurn ts → TurnAlike asking s ts before
-  turns-alike s [] before sound are = record { told = refl; left = refl; written = refl; sound = sound }
+  turns-alike s [] before sound are = record { told = refl; left = refl; written = refl; sound = sound; records = λ is. is }
   turns-alike s (t ∷ ts) before sound are =
       let one = turn-see s t sound are.0 in
       let next = (turned asking plain_way s t).after in
@@ -141,24 +173,29 @@ module _ (again : SeenAgain) (steps : StepsRefine) (units : UnitsRefine) (steps_
         written = ap (λ (x : Turned). last_written asking seen_way (option_or x.written (option_map see before)) x.after ts) one
             ∙ (ap (λ w. last_written asking seen_way w (see_standing next) ts) (or-see (turned asking plain_way s t).written before) ∙ rest.written);
         sound = rest.sound;
+        records = λ was. rest.records (or-sound (turned asking plain_way s t).written before (turn-written s t sound are.0) was);
       }
 
-  turns-stand : (s : Standing) (ts : List Turn) → IsSeenStanding s → Each IsTurn ts → TurnStands asking s ts
-  turns-stand s ts seen are =
-      let alike = turns-alike s ts None (record { machine = seen.machine.sound; present = seen.present }) are in
+  turns-stand : (s : Standing) (ts : List Turn) (before : Option Machine) → IsSeenStanding s → IsSeenWritten before → Each IsTurn ts → TurnStands asking s ts before
+  turns-stand s ts before seen was are =
+      let alike = turns-alike s ts before (record { machine = seen.machine.sound; present = seen.present }) are in
       let same : s ≡ see_standing s = ap (λ (m : Machine). record s { machine = m }) (sym seen.machine.again) in
       let ends = ap (λ (x : Standing). behind asking seen_way x ts) same ∙ alike.left in
+      let writes = ap (λ (x : Standing). last_written asking seen_way before x ts) same
+          ∙ (ap (λ o. last_written asking seen_way o (see_standing s) ts) (sym (written-again before was)) ∙ alike.written) in
       record {
         told = ap (λ (x : Standing). replies asking seen_way x ts) same ∙ alike.told;
         left = ends;
+        written = writes;
         seen = subst IsSeenStanding (sym ends) (record { machine = again (behind asking plain_way s ts).machine alike.sound.machine; present = alike.sound.present });
+        records = subst IsSeenWritten (sym writes) (seen-written (last_written asking plain_way before s ts) (alike.records (written-sound before was)));
       }
 
 pub turns_refine : SeenAgain → StepsRefine → UnitsRefine → StepsKeepSound → UnitsKeepSound → TurnsRefine
 turns_refine again steps units steps_keep units_keep asking s ts before sound are = turns-alike again steps units steps_keep units_keep asking s ts before sound are
 
 pub turns_stand : SeenAgain → StepsRefine → UnitsRefine → StepsKeepSound → UnitsKeepSound → TurnsStand
-turns_stand again steps units steps_keep units_keep asking s ts seen are = turns-stand again steps units steps_keep units_keep asking s ts seen are
+turns_stand again steps units steps_keep units_keep asking s ts before seen was are = turns-stand again steps units steps_keep units_keep asking s ts before seen was are
 
 pub messages_refine : SeenAgain → StepsRefine → UnitsRefine → StepsKeepSound → UnitsKeepSound → MessagesRefine
 messages_refine again steps units steps_keep units_keep asking m now method target body sound is_now short = record {

@@ -1,7 +1,7 @@
 -- The definitions on a small machine, worked out: a stream of two members, and two rows in the first of them.
 use Rattle.std.specs.Char.{encode_utf8}
 use Rattle.std.specs.Str.{is_utf8, chars}
-use Rattle.std.specs.Prelude.{ℤ, Err, map}
+use Rattle.std.specs.Prelude.{ℤ, Err, Ok, map}
 use Rattle.std.proofs.Common.{◌≡◌, Bool, ℕ, pos, List, [], ◌∷◌, Option, Some, None, true, false, refl, arith, codes}
 use Rattle.std.proofs.lemmas.Slice.Eq.{bytes_eq-Decides}
 use Rattle.reply_json.specs.Trees as tree
@@ -22,12 +22,14 @@ use Rattle.series_id.specs.Ids.{id_of}
 use Rattle.series_id.specs.declared.keys.KeyError.TheVariants.{KeyTooLong}
 use Rattle.stream_catalog.specs.Plain.{PlainIndex, PlainStream, PlainCatalog, facts_of}
 use Rattle.stream_catalog.specs.Puts.{is_full, put_into}
-use Rattle.stream_catalog.specs.Ways.{plain_way}
+use Rattle.stream_catalog.specs.Ways.{plain_way, seen_way, see_catalog}
+use Rattle.stream_catalog.specs.Indices.{folded_mapping}
 use Rattle.stream_catalog.specs.declared.facts.HeldIndex.{HeldIndex}
 use Rattle.stream_catalog.specs.declared.facts.TaskFacts.{TaskFacts}
 use Rattle.synthetic_source.specs.declared.errors.DocKind.TheVariants.{NoTime, Unmapped, NotLeaf, WrongType, ManyValues, BadAggregate}
 use Rattle.synthetic_source.specs.Document.{document_cells}
 use Rattle.synthetic_source.specs.Faults.{fault_at, time_fault, time_of}
+use Rattle.time_text.specs.Bucket.{bucket_start}
 use Rattle.time_text.specs.declared.intervals.Interval.{Interval}
 use Rattle.time_text.specs.declared.units.Unit.TheVariants.{S}
 use Rattle.synthetic_source.specs.Normal.{norm}
@@ -35,18 +37,21 @@ use Rattle.synthetic_source.specs.Replies.{out_of}
 use Rattle.ts_mapping.specs.declared.kinds.MapKind.TheVariants.{Shape}
 use Rattle.ts_mapping.specs.declared.templates.Mapping.{Mapping}
 use Rattle.ts_mapping.specs.declared.templates.Template.{Template}
+use Rattle.downsample_fold.specs.Direct.{down}
+use Rattle.rest_request.specs.Body.{object_of}
 use Rattle.rest_request.specs.Message.{flush}
+use Rattle.rest_request.specs.Table.{request_of}
 use Rattle.stream_catalog.specs.Rounds.{lifecycle_run}
 use Rattle.stream_catalog.specs.Streams.{next_name, rolled_names}
 use Rattle.stream_catalog.specs.Units.{unit_of}
 use Rattle.stream_catalog.specs.declared.answers.What.TheVariants.{Streams}
 use Rattle.tsds_service.specs.Machine.{Machine, unit}
-use Rattle.tsds_service.specs.Messages.{moment_by}
-use Rattle.tsds_service.specs.Questions.{Asking, no_document, document_reply}
+use Rattle.tsds_service.specs.Messages.{message_told, moment_by}
+use Rattle.tsds_service.specs.Questions.{Asking, facts_in, joined_fields, samples_of, no_document, document_reply}
 use Rattle.tsds_service.specs.Replies.{ack, interval_word, ran_reply, rolled_reply, tasks_reply}
 use Rattle.tsds_service.specs.Step.{told, downsample_by, get_document, modify, run_lifecycle, step}
-use Rattle.tsds_service.specs.Turns.{asks, works, Standing, replies, behind, last_written}
-use Rattle.tsds_service.specs.Bulk.{Outcome, taken, barred, after_outcome, by_document, by_key, by_place, item_outcome, item_tree, bulk_reply}
+use Rattle.tsds_service.specs.Turns.{asks, sends, works, Standing, replies, behind, last_written}
+use Rattle.tsds_service.specs.Bulk.{Outcome, taken, barred, after_outcome, by_document, by_key, by_place, item_outcome, outcomes_of, item_tree, bulk_reply}
 use Rattle.tsds_service.specs.Causes as cause
 use Rattle.tsds_service.specs.Causes.{Cause, ItemCause, refused, said, item_said, only_create, no_stream, no_object, bad_time, outside, blocked, bad_document, no_routing, long_key, conflict, full}
 
@@ -271,10 +276,89 @@ moment_earlier = refl
 pub moment_unread : moment_by (pos 5) None ≡ record { reply = Some (refused cause.bad_moment); now = pos 5 }
 moment_unread = refl
 
--- ---- turns
+-- ---- messages
 
 abbrev standing : Machine → Standing
 standing m = record { machine = m; present = pos 15000 }
+
+-- a reading that is refused leaves the moment, and the task goes on by a series all the same
+pub told_refused : (asking : Asking) → message_told asking plain_way (folding 0) (pos 16000) (codes "GET") (codes "x") [] ≡ record { reply = refused cause.no_such_path; stepped = folding 0; after = folding 1; wrote = false }
+unfolding message_told request_of unit_of
+told_refused asking = refl
+
+-- what a flush as it is sent writes is the machine before its unit, at the moment of the message
+abbrev kept_at : ℕ → ℤ → Machine
+kept_at done now = record (folding done) { kept = true; now = now }
+
+pub told_flush : (asking : Asking) (method target body : List ℕ) → request_of method target body ≡ Ok flush →
+    message_told asking plain_way (kept_at 0 (pos 15000)) (pos 16000) method target body ≡ record { reply = ack; stepped = kept_at 0 (pos 16000); after = kept_at 1 (pos 16000); wrote = true }
+unfolding message_told step unit_of
+told_flush asking method target body is = rw is refl
+
+-- so the records are those of the machine before its unit
+pub written_flush : (asking : Asking) (method target body : List ℕ) → request_of method target body ≡ Ok flush →
+    last_written asking plain_way None (standing (kept_at 0 (pos 15000))) (sends method target body ∷ works ∷ []) ≡ Some (kept_at 0 (pos 15000))
+unfolding message_told step unit_of
+written_flush asking method target body is = rw is refl
+
+-- ---- a bulk request: each item sees what those before it left
+
+-- a document that comes twice is taken, and then a conflict; so in either way
+abbrev twice : List ℕ → List Item
+twice source = item (Some source) ∷ item (Some source) ∷ []
+
+abbrev told_twice : List Outcome
+told_twice = taken (codes "a") (row_at 97 1600 1) ∷ barred (conflict (id_of (key 97) (pos 1600))) ∷ []
+
+pub twice_plain : (source : List ℕ) → object_of source ≡ Some (document 97 1600 1) → outcomes_of plain_way (two false None []) (twice source) ≡ told_twice
+unfolding item_outcome time_fault time_of leaf.leaves_of document_cells fault_at is_utf8 chars encode_utf8
+twice_plain source is = rw is refl
+
+pub twice_seen : (source : List ℕ) → object_of source ≡ Some (document 97 1600 1) → outcomes_of seen_way (see_catalog (two false None [])) (twice source) ≡ told_twice
+unfolding item_outcome time_fault time_of leaf.leaves_of document_cells fault_at is_utf8 chars encode_utf8
+twice_seen source is = rw is refl
+
+-- ---- the rows that two members offer, whose mappings differ
+
+-- a schema that counts at another path
+abbrev other_schema : Schema
+other_schema = record schema {
+  fields = record { path = codes "@timestamp"; kind = Date; role = Time }
+      ∷ record { path = codes "host"; kind = Keyword; role = Dimension }
+      ∷ record { path = codes "mem"; kind = Long; role = Counter } ∷ [];
+}
+
+abbrev other_index : PlainIndex
+other_index = record { facts = record last_facts { mapping = record mapping { schema = other_schema } }; rows = row_at 98 11000 5 ∷ [] }
+
+abbrev one_row : PlainIndex
+one_row = record { facts = first_facts false; rows = row_at 97 1500 7 ∷ [] }
+
+-- the fields of both, by path
+pub joined : map (λ f. f.path) (joined_fields (facts_in (one_row ∷ other_index ∷ []))) ≡ codes "@timestamp" ∷ codes "host" ∷ codes "mem" ∷ codes "req" ∷ []
+joined = refl
+
+-- a row is offered as it is, and with a cell beside each of these; what its index doesn't map is absent
+pub offered : samples_of plain_way (one_row ∷ other_index ∷ []) ≡
+    record { index = codes "a"; start = pos 0; row = row_at 97 1500 7; wide = record (row_at 97 1500 7) { cells = Absent ∷ One (Word (97 ∷ [])) ∷ Absent ∷ One (Whole (pos 7)) ∷ [] } }
+    ∷ record { index = codes "b"; start = pos 10000; row = row_at 98 11000 5; wide = record (row_at 98 11000 5) { cells = Absent ∷ One (Word (98 ∷ [])) ∷ One (Whole (pos 5)) ∷ Absent ∷ [] } } ∷ []
+offered = refl
+
+-- a folded index offers the fold of its rows: here of two documents in one bucket, the later value last
+abbrev folded_one : PlainIndex
+folded_one = record {
+  facts = record (first_facts true) { interval = Some second; mapping = folded_mapping false mapping };
+  rows = row_at 97 1500 7 ∷ row_at 97 1600 9 ∷ [];
+}
+
+abbrev one_fold : Row
+one_fold = record (row_at 97 1000 9) { count = 2 }
+
+pub offered_fold : samples_of plain_way (folded_one ∷ []) ≡ record { index = codes "a"; start = pos 0; row = one_fold; wide = one_fold } ∷ []
+unfolding down bucket_start
+offered_fold = refl
+
+-- ---- turns
 
 -- two units end a fold of two series
 pub units_swap : (asking : Asking) → names (behind asking plain_way (standing (folding 0)) (works ∷ works ∷ [])).machine.catalog ≡ codes "b" ∷ codes "f" ∷ []

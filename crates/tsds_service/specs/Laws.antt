@@ -1,5 +1,5 @@
 -- What is seen of a machine answers as the machine.
-use Rattle.std.specs.Prelude.{◌≡◌, ◌≤◌, ℕ, ℤ, Bool, List, length, take, Some, Ok, map, Option}
+use Rattle.std.specs.Prelude.{◌≡◌, ◌≤◌, ℕ, ℤ, Bool, List, length, take, Option, None, Some, Ok, map}
 use Rattle.std.specs.Option.{option_map}
 use Rattle.bulk_json.specs.Items.{bulk_of}
 use Rattle.bulk_json.specs.declared.items.Item.{Item}
@@ -118,22 +118,34 @@ pub record IsSeenStanding (s : Standing) : Type 0 where
   pub machine : IsSeen s.machine
   pub present : IsInstant s.present
 
+-- the machine whose records were written, if there is one, is sound; or what the code holds
+abbrev pub IsSoundWritten : Option Machine → Type 0
+IsSoundWritten None = Unit {0}
+IsSoundWritten (Some m) = IsSound m
+
+abbrev pub IsSeenWritten : Option Machine → Type 0
+IsSeenWritten None = Unit {0}
+IsSeenWritten (Some m) = IsSeen m
+
 -- what is seen replies what the plain machine replies, is left as what is seen of it, and writes the records of what is seen of
--- the machine whose records it writes; and that one is left sound
+-- the machine whose records it writes; and both machines are sound, the one that is left and the one that is written
 pub record TurnAlike (asking : Asking) (s : Standing) (ts : List Turn) (before : Option Machine) : Type 0 where
   pub told : replies asking seen_way (see_standing s) ts ≡ replies asking plain_way s ts
   pub left : behind asking seen_way (see_standing s) ts ≡ see_standing (behind asking plain_way s ts)
   pub written : last_written asking seen_way (option_map see before) (see_standing s) ts ≡ option_map see (last_written asking plain_way before s ts)
   pub sound : IsSoundStanding (behind asking plain_way s ts)
+  pub records : IsSoundWritten before → IsSoundWritten (last_written asking plain_way before s ts)
 
 abbrev pub TurnsRefine : Type 0
 TurnsRefine = (asking : Asking) (s : Standing) (ts : List Turn) (before : Option Machine) → IsSoundStanding s → Each IsTurn ts → TurnAlike asking s ts before
 
--- what the code holds replies as the plain machine that begins as it, and is left as what is seen of that one
-pub record TurnStands (asking : Asking) (s : Standing) (ts : List Turn) : Type 0 where
+-- what the code holds replies as the plain machine that begins as it, and is left and written as what is seen of that one
+pub record TurnStands (asking : Asking) (s : Standing) (ts : List Turn) (before : Option Machine) : Type 0 where
   pub told : replies asking seen_way s ts ≡ replies asking plain_way s ts
   pub left : behind asking seen_way s ts ≡ see_standing (behind asking plain_way s ts)
+  pub written : last_written asking seen_way before s ts ≡ option_map see (last_written asking plain_way before s ts)
   pub seen : IsSeenStanding (behind asking seen_way s ts)
+  pub records : IsSeenWritten (last_written asking seen_way before s ts)
 
 abbrev pub TurnsStand : Type 0
-TurnsStand = (asking : Asking) (s : Standing) (ts : List Turn) → IsSeenStanding s → Each IsTurn ts → TurnStands asking s ts
+TurnsStand = (asking : Asking) (s : Standing) (ts : List Turn) (before : Option Machine) → IsSeenStanding s → IsSeenWritten before → Each IsTurn ts → TurnStands asking s ts before
