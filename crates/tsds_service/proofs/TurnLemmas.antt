@@ -182,7 +182,7 @@ module _ (again : SeenAgain) (steps : StepsRefine) (units : UnitsRefine) (steps_
       let same : s ≡ see_standing s = ap (λ (m : Machine). record s { machine = m }) (sym seen.machine.again) in
       let ends = ap (λ (x : Standing). behind asking seen_way x ts) same ∙ alike.left in
       let writes = ap (λ (x : Standing). last_written asking seen_way before x ts) same
-          ∙ (ap (λ o. last_written asking seen_way o (see_standing s) ts) (sym (written-again before was)) ∙ alike.written) in
+      ∙ (ap (λ o. last_written asking seen_way o (see_standing s) ts) (sym (written-again before was)) ∙ alike.written) in
       record {
         told = ap (λ (x : Standing). replies asking seen_way x ts) same ∙ alike.told;
         left = ends;
