@@ -1,5 +1,7 @@
 -- Small bodies and what they are read as.
 use Rattle.std.specs.Prelude.{◌≡◌, ℕ, pos, true, false, List, [], ◌∷◌, codes, Some, None}
+use Rattle.std.specs.Char.{encode_utf8}
+use Rattle.std.specs.Str.{is_utf8, chars}
 use Rattle.std.specs.declared.result.Result.TheVariants.{Ok, Err}
 use Rattle.std.proofs.Common.{refl}
 use Rattle.serde_json.specs.Data.{Data, null, string, array, object, no_items, item, no_members, member}
@@ -39,10 +41,12 @@ exists_has_places : query_of (pos 0) schema (one (codes "exists") (one (codes "f
 exists_has_places = refl
 
 term_names_a_value : query_of (pos 0) schema (one (codes "term") (one (codes "host") (one (codes "value") (string (codes "a"))))) ≡ Ok (OneOf 2 (Word (codes "a") ∷ []))
+unfolding is_utf8 chars encode_utf8
 term_names_a_value = refl
 
 gt_is_open : query_of (pos 0) schema (one (codes "range") (one (codes "host") (one (codes "gt") (string (codes "a"))))) ≡
     Ok (Between 2 (Some (record { value = Word (codes "a"); inclusive = false })) None)
+unfolding is_utf8 chars encode_utf8
 gt_is_open = refl
 
 -- a wrong shape is told before a wrong value, wherever it stands
