@@ -26,5 +26,6 @@ mod RunLemmas
 mod PlanLemmas
 mod AfterLemmas
 mod FinishLemmas
+mod TaskLemmas
 mod NameLemmas
 mod NamedKeptLemmas
