@@ -31,6 +31,7 @@ use Rattle.stream_catalog.specs.declared.facts.TaskFacts.{TaskFacts}
 use Rattle.stream_catalog.specs.Plain.{PlainIndex, PlainStream, PlainCatalog, PlainFacts, facts_of}
 use Rattle.stream_catalog.specs.Ways.{plain_way, seen_way, see_catalog, kept_rows}
 use Rattle.stream_catalog.specs.Indices.{block_refusal, downsample_refusal, folded_mapping, downsampled, delete_refusal, index_deleted}
+use Rattle.stream_catalog.specs.FactTests.{are_facts_sound}
 use Rattle.stream_catalog.specs.Lists.{when, first_of, template_name, template_named}
 use Rattle.stream_catalog.specs.Names.{most_templates, most_streams, most_indices, is_taken, template_for}
 use Rattle.stream_catalog.specs.Moves.{moves_refusal, moved_all}
@@ -591,3 +592,14 @@ fold_of_nothing = refl
 -- a reserved name, also of a write index's fold
 pub fold_reserved : downsample_refusal (facts_of (two false None [])) (codes "b") (codes "downsample-c") second ≡ Some Reserved
 fold_reserved = refl
+
+-- ---- the test of facts takes a fold that is under way, and none of an index that takes documents; nor two of one index
+
+pub tested : are_facts_sound (facts_of (two true None (task_of (codes "a") (codes "f") 0 true ∷ []))) ≡ true
+tested = refl
+
+pub tested_open : are_facts_sound (facts_of (two true None (task_of (codes "b") (codes "f") 0 true ∷ []))) ≡ false
+tested_open = refl
+
+pub tested_twice : are_facts_sound (facts_of (two true None (task_of (codes "a") (codes "f") 0 true ∷ task_of (codes "a") (codes "g") 0 true ∷ []))) ≡ false
+tested_twice = refl

@@ -1,5 +1,5 @@
 -- The laws that tie a plain catalogue to what is seen of it.
-use Rattle.std.specs.Prelude.{◌≡◌, ◌⊎◌, ℕ, ℤ, ◌≤◌, ◌<◌, ◌+◌, ◌++◌, Bool, true, false, List, [], ◌∷◌, map, length, Option, None, Some, IsTrue}
+use Rattle.std.specs.Prelude.{◌≡◌, ◌⊎◌, ◌↔◌, ℕ, ℤ, ◌≤◌, ◌<◌, ◌+◌, ◌++◌, Bool, true, false, List, [], ◌∷◌, map, length, Option, None, Some, IsTrue}
 use Rattle.std.specs.List.{slice_get}
 use Rattle.std.specs.Option.{option_map}
 use Rattle.row_cells.specs.declared.rows.Row.{Row}
@@ -17,7 +17,7 @@ use Rattle.index_names.specs.Backing.{downsample_name}
 use Rattle.index_names.specs.Names.{is_stream_name, is_target_name}
 use Rattle.lifecycle_swap.specs.Lifecycles.{IsLifecycle}
 use Rattle.lifecycle_swap.specs.declared.lifecycles.Lifecycle.{Lifecycle}
-use Rattle.ts_mapping.specs.Facts.{IsTemplate}
+use Rattle.ts_mapping.specs.Facts.{IsMapping, IsTemplate}
 use Rattle.ts_mapping.specs.declared.templates.Template.{Template}
 use Rattle.stream_catalog.specs.declared.answers.Move.{Move}
 use Rattle.stream_catalog.specs.declared.answers.Move.TheVariants.{Remove}
@@ -32,7 +32,8 @@ use Rattle.stream_catalog.specs.Puts.{MayPut, put_into}
 use Rattle.stream_catalog.specs.Rounds.{Running, lifecycle_run}
 use Rattle.stream_catalog.specs.Units.{with_renamed, unit_of}
 use Rattle.stream_catalog.specs.WellNamed.{IsOrigin, IsWellNamed}
-use Rattle.stream_catalog.specs.Sound.{times, IsHeld, IsIndexSound, IsSoundCatalog, IsSeenCatalog}
+use Rattle.stream_catalog.specs.FactTests.{are_facts_sound, are_well_named}
+use Rattle.stream_catalog.specs.Sound.{AreFactsSound, times, IsHeld, IsIndexSound, IsSoundCatalog, IsSeenCatalog}
 
 -- what is seen of a sound catalogue is sound, and seen again itself
 abbrev pub SeenAgain : Type 0
@@ -267,6 +268,16 @@ MovesKeepSound = (c : PlainCatalog) (moves : List Move) → IsSoundCatalog c →
 
 abbrev pub RunsKeepSound : Type 0
 RunsKeepSound = (c : PlainCatalog) (now : ℤ) → IsSoundCatalog c → IsSoundCatalog (lifecycle_run c now).catalog
+
+-- ---- tests
+
+-- what is sound is told by tests: those of templates and mappings, which may be made before, and one of all else
+abbrev pub FactsAreTested : Type 0
+FactsAreTested = (f : PlainFacts) → Each IsTemplate f.templates → Each (λ i. IsMapping i.mapping) f.indices → IsTrue (are_facts_sound f) ↔ AreFactsSound f
+
+-- so with names, where the origins of indices are known to be names of backing indices
+abbrev pub NamesAreTested : Type 0
+NamesAreTested = (c : PlainCatalog) → Each (λ i. IsOrigin i.facts.origin) c.indices → IsTrue (are_well_named c) ↔ IsWellNamed c
 
 -- ---- what the code keeps
 
