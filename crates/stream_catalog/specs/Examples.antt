@@ -503,7 +503,8 @@ roll_free = refl
 abbrev beside : List ℕ → ℤ → ℤ → PlainFacts
 beside template start end = record (facts_of (two true None [])) {
   streams = stream None ∷ record { facts = record { name = codes "v"; template = codes "u"; generation = 1; members = codes "w" ∷ [] }; life = None } ∷ [];
-  indices = old_facts true ∷ new_facts ∷ record (old_facts true) { name = codes "l"; template = template; start = start; end = end } ∷ record (old_facts false) { name = codes "w"; template = codes "u" } ∷ [];
+  indices = old_facts true ∷ new_facts ∷ record (old_facts true) { name = codes "l"; template = template; start = start; end = end }
+      ∷ record (old_facts false) { name = codes "w"; template = codes "u" } ∷ [];
 }
 
 abbrev add : List ℕ → List ℕ → PlainFacts → Option CatalogError
@@ -556,7 +557,8 @@ pub put_changed_least : template_refusal (facts_of (two false None [])) (remappe
 put_changed_least = refl
 
 -- a changed field is told before a limit
-pub put_changed_first : (ts : List Template) → template_refusal (record (facts_of (two false None [])) { templates = ts }) (remapped (codes "t") other_count) ≡ Some (ChangedField (codes "req") (codes "a"))
+pub put_changed_first : (ts : List Template) →
+    template_refusal (record (facts_of (two false None [])) { templates = ts }) (remapped (codes "t") other_count) ≡ Some (ChangedField (codes "req") (codes "a"))
 put_changed_first ts = refl
 
 -- another name may map the path as it likes

@@ -203,7 +203,8 @@ pub record TaskRowsStay : Type 0 where
   pub rollovers : (c : PlainCatalog) (name : List ℕ) (now : ℤ) → rollover_refusal (facts_of c) name now ≡ None → KeepsTasks c (rolled_over c name now)
   pub blocks : (c : PlainCatalog) (n : List ℕ) → KeepsTasks c (blocked_in c n)
   pub puts : (way : Way) (c : PlainCatalog) (n : List ℕ) (row : Row) → IsSoundCatalog c → TakesRow c n row → KeepsTasks c (put_into way c n row)
-  pub downsamples : (way : Way) (c : PlainCatalog) (source target : List ℕ) (by : Interval) → downsample_refusal (facts_of c) source target by ≡ None → KeepsTasks c (downsampled way c source target by)
+  pub downsamples : (way : Way) (c : PlainCatalog) (source target : List ℕ) (by : Interval) → downsample_refusal (facts_of c) source target by ≡ None →
+      KeepsTasks c (downsampled way c source target by)
   pub deletions : (c : PlainCatalog) (n : List ℕ) → KeepsTasks c (index_deleted c n)
   pub moves : (c : PlainCatalog) (moves : List Move) → KeepsTasks c (moved_all c moves)
   pub units : (way : Way) (c : PlainCatalog) → IsSoundCatalog c → KeepsTasks c (unit_of way c)

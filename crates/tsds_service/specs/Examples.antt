@@ -309,14 +309,18 @@ pub step_open : downsample_by plain_way plain (codes "a") (codes "c") (Some seco
 step_open = refl
 
 -- moves
+abbrev move_of : List ℕ → List ℕ → Data
+move_of action index = object (member action (object (member (codes "data_stream") (string (codes "s")) (member (codes "index") (string index) no_members))) no_members)
+
 abbrev move_one : List ℕ → List ℕ → Data
-move_one action index =
-    object (member (codes "actions") (array (element (object (member action (object (member (codes "data_stream") (string (codes "s")) (member (codes "index") (string index) no_members))) no_members)) no_items)) no_members)
+move_one action index = object (member (codes "actions") (array (element (move_of action index) no_items)) no_members)
 
 -- with an index in no stream
 abbrev beside : List ℕ → Machine
 beside template = record plain {
-  catalog = record (two false None []) { indices = first_index false ∷ record { facts = last_facts; rows = [] } ∷ record { facts = record (first_facts true) { name = codes "l"; template = template }; rows = [] } ∷ [] };
+  catalog = record (two false None []) {
+    indices = first_index false ∷ record { facts = last_facts; rows = [] } ∷ record { facts = record (first_facts true) { name = codes "l"; template = template }; rows = [] } ∷ [];
+  };
 }
 
 pub step_not_member : modify plain (move_one (codes "remove_backing_index") (codes "c")) ≡ told plain (argues (codes "[c] is not a backing index of [s]"))
@@ -351,10 +355,12 @@ pub step_changed : (body : Data) → template_refusal (facts_of (two false None 
     put_template plain (codes "t") body None ≡ told plain (argues (codes "field [p] is mapped in another way in [i]"))
 step_changed body is = rw is refl
 
-pub step_many : (body : Data) → template_refusal (facts_of (two false None [])) (template_of (codes "t") body) ≡ Some (Limit Templates) → put_template plain (codes "t") body None ≡ told plain (argues (codes "limit of [templates] reached"))
+pub step_many : (body : Data) → template_refusal (facts_of (two false None [])) (template_of (codes "t") body) ≡ Some (Limit Templates) →
+    put_template plain (codes "t") body None ≡ told plain (argues (codes "limit of [templates] reached"))
 step_many body is = rw is refl
 
-pub step_faulty : (body : Data) → put_template plain (codes "t") body (Some (record { kind = Shape; path = codes "p" })) ≡ told plain (reply_of (wrong 400 (codes "mapper_parsing_exception") (codes "Shape [p]")))
+pub step_faulty : (body : Data) → put_template plain (codes "t") body (Some (record { kind = Shape; path = codes "p" }))
+    ≡ told plain (reply_of (wrong 400 (codes "mapper_parsing_exception") (codes "Shape [p]")))
 step_faulty body = refl
 
 -- ---- messages
@@ -363,7 +369,8 @@ abbrev standing : Machine → Standing
 standing m = record { machine = m; present = pos 15000 }
 
 -- a reading that is refused leaves the moment, and the task goes on by a series all the same
-pub told_refused : (asking : Asking) → message_told asking plain_way (folding 0) (pos 16000) (codes "GET") (codes "x") [] ≡ record { reply = refused cause.no_such_path; stepped = folding 0; after = folding 1; wrote = false }
+pub told_refused : (asking : Asking) →
+    message_told asking plain_way (folding 0) (pos 16000) (codes "GET") (codes "x") [] ≡ record { reply = refused cause.no_such_path; stepped = folding 0; after = folding 1; wrote = false }
 unfolding message_told request_of unit_of
 told_refused asking = refl
 
