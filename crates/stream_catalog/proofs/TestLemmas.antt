@@ -1,5 +1,5 @@
 -- Tests of facts and names tell which are sound.
-use Rattle.std.specs.Prelude.{◌≡◌, ◌⊎◌, ◌↔◌, ℕ, suc, ℤ, pos, ◌<◌, ◌≤◌, ◌+◌, ◌≤ℤ◌, ◌<ℤ◌, int_le, int_lt, nat_le, nat_lt, ◌==◌, T, Bool, true, false, not, ◌&&◌, ◌||◌, List, [], ◌∷◌, map, length, bytes_eq, Option, Some, None, if◌then◌else◌}
+use Rattle.std.specs.Prelude.{◌≡◌, ℕ, suc, ℤ, pos, ◌<◌, ◌≤◌, ◌≤ℤ◌, ◌<ℤ◌, int_le, int_lt, nat_le, nat_lt, ◌==◌, T, Bool, true, false, not, ◌&&◌, ◌||◌, List, [], ◌∷◌, map, length, bytes_eq, Option, Some, None, if◌then◌else◌}
 use Rattle.std.specs.Bool.{Decides}
 use Rattle.std.specs.Int.Signed.{le_z_yes, lt_z_yes}
 use Rattle.std.specs.List.{list_all, flat_map}
@@ -26,16 +26,14 @@ use Rattle.index_names.specs.Names.{is_stream_name, is_target_name, is_index_nam
 use Rattle.lifecycle_swap.specs.Lifecycles.{is_lifecycle}
 use Rattle.lifecycle_swap.specs.declared.lifecycles.Lifecycle.{Lifecycle}
 use Rattle.ts_mapping.specs.Agreeing.{kind_number, role_number, is_alike, is_other_field}
-use Rattle.ts_mapping.specs.Facts.{IsMapping, IsTemplate}
-use Rattle.ts_mapping.specs.declared.templates.Template.{Template}
+use Rattle.ts_mapping.specs.Facts.{IsMapping}
 use Rattle.stream_catalog.specs.declared.facts.HeldIndex.{HeldIndex}
-use Rattle.stream_catalog.specs.declared.facts.TaskFacts.{TaskFacts}
-use Rattle.stream_catalog.specs.Plain.{PlainIndex, PlainStream, PlainCatalog, PlainFacts}
+use Rattle.stream_catalog.specs.Plain.{PlainIndex, PlainStream, PlainFacts}
 use Rattle.stream_catalog.specs.Lists.{template_name, stream_name, facts_name, template_named, facts_named}
 use Rattle.stream_catalog.specs.Names.{names_of, most_templates, most_streams, most_indices}
-use Rattle.stream_catalog.specs.WellNamed.{IsOrigin, IsTemplateNamed, IsStreamNamed, IsIndexNamed, IsTaskNamed, IsWellNamed}
-use Rattle.stream_catalog.specs.Sound.{IsKind, IsThere, IsHeld, IsMemberOf, EndsBefore, WindowsFollow, IsLife, IsStream, KeepsMark, IsTaskOf, times, AreOnce, Form, form_of, template_form, Agrees, AllAgree, AreFactsSound}
-use Rattle.stream_catalog.specs.FactTests.{is_instant, is_kind, is_held, is_member_of, ends_before, windows_follow, is_life, is_stream, is_same, keeps_mark, is_task_of, fields_agree, agrees, all_agree, keys_ascend, are_once, are_each_sound, do_forms_agree, do_lists_ascend, are_names_once, are_few, are_facts_sound, are_well_named}
+use Rattle.stream_catalog.specs.WellNamed.{IsOrigin, IsTemplateNamed, IsStreamNamed, IsIndexNamed, IsTaskNamed}
+use Rattle.stream_catalog.specs.Sound.{IsKind, IsThere, IsHeld, IsMemberOf, EndsBefore, WindowsFollow, IsLife, IsStream, KeepsMark, IsTaskOf, times, AreOnce, Form, form_of, template_form, Agrees, AllAgree}
+use Rattle.stream_catalog.specs.FactTests.{is_instant, is_kind, is_held, is_member_of, ends_before, windows_follow, is_life, is_stream, is_same, keeps_mark, is_task_of, fields_agree, agrees, all_agree, keys_ascend, are_once, are_each_sound, do_forms_agree, do_lists_ascend, are_names_once}
 use Rattle.stream_catalog.specs.Laws.{FactsAreTested, NamesAreTested}
 use Rattle.stream_catalog.proofs.CountLemmas.{bytes_eq-itself}
 use Rattle.stream_catalog.proofs.TemplateLemmas.{same_field}

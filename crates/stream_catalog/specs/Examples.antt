@@ -1,5 +1,5 @@
 -- The definitions on small machines, worked out: two rows in one index of two members.
-use Rattle.std.proofs.Common.{◌≡◌, Bool, ℕ, pos, List, [], ◌∷◌, Option, Some, None, true, false, refl, arith, codes, ◌≤◌, ◌*◌, ap}
+use Rattle.std.proofs.Common.{◌≡◌, Bool, ℕ, pos, List, [], ◌∷◌, Option, Some, None, true, false, refl, arith, codes, ◌≤◌, ◌*◌}
 use Rattle.std.specs.Prelude.{ℤ, map, length, not, nat_le, ◌&&◌, Ok, Err}
 use Rattle.std.specs.Fmt.{digits}
 use Rattle.std.specs.Option.{is_some, option_map}
@@ -28,7 +28,7 @@ use Rattle.stream_catalog.specs.declared.answers.PickError.TheVariants.{NoWindow
 use Rattle.stream_catalog.specs.declared.answers.Move.TheVariants.{Remove, Add}
 use Rattle.stream_catalog.specs.declared.facts.HeldIndex.{HeldIndex}
 use Rattle.stream_catalog.specs.declared.facts.TaskFacts.{TaskFacts}
-use Rattle.stream_catalog.specs.Plain.{PlainIndex, PlainStream, PlainCatalog, PlainFacts, facts_of}
+use Rattle.stream_catalog.specs.Plain.{PlainStream, PlainCatalog, PlainFacts, facts_of}
 use Rattle.stream_catalog.specs.Ways.{plain_way, seen_way, see_catalog, kept_rows}
 use Rattle.stream_catalog.specs.Indices.{block_refusal, downsample_refusal, folded_mapping, downsampled, delete_refusal, index_deleted}
 use Rattle.stream_catalog.specs.FactTests.{are_facts_sound}

@@ -15,10 +15,8 @@ use Rattle.index_names.specs.Names.{is_stream_name, is_target_name, is_index_nam
 use Rattle.lifecycle_swap.specs.Lifecycles.{is_lifecycle}
 use Rattle.lifecycle_swap.specs.declared.lifecycles.Lifecycle.{Lifecycle}
 use Rattle.ts_mapping.specs.Agreeing.{is_other_field}
-use Rattle.ts_mapping.specs.declared.templates.Template.{Template}
 use Rattle.stream_catalog.specs.declared.facts.HeldIndex.{HeldIndex}
-use Rattle.stream_catalog.specs.declared.facts.TaskFacts.{TaskFacts}
-use Rattle.stream_catalog.specs.Plain.{PlainIndex, PlainStream, PlainCatalog, PlainFacts}
+use Rattle.stream_catalog.specs.Plain.{PlainStream, PlainCatalog, PlainFacts}
 use Rattle.stream_catalog.specs.Lists.{template_name, stream_name, facts_name, template_named, facts_named}
 use Rattle.stream_catalog.specs.Names.{names_of, most_templates, most_streams, most_indices}
 use Rattle.stream_catalog.specs.Sound.{times, Form, form_of, template_form}
