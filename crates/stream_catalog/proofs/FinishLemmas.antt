@@ -1,5 +1,5 @@
 -- What a unit leaves, by how many series are left.
-use Rattle.std.specs.Prelude.{◌≡◌, ◌⊎◌, ℕ, ◌+◌, ◌==◌, ◌≤◌, ◌<◌, Bool, not, true, false, if◌then◌else◌, List, [], ◌∷◌, map, length, Option, None, Some, bytes_eq}
+use Rattle.std.specs.Prelude.{◌≡◌, ◌⊎◌, ℕ, ◌+◌, ◌==◌, ◌≤◌, ◌<◌, Bool, not, true, false, if◌then◌else◌, List, ◌∷◌, map, length, Option, None, Some, bytes_eq}
 use Rattle.std.specs.Option.{option_map}
 use Rattle.std.proofs.Common.{refl, ap, ◌∙◌, sym, subst, arith, inl, inr}
 use Rattle.std.proofs.lemmas.Bool.{eqb-true, eq-eqb}
@@ -9,11 +9,11 @@ use Rattle.downsample_fold.specs.Laws.{series_of}
 use Rattle.stream_catalog.specs.declared.facts.TaskFacts.{TaskFacts}
 use Rattle.stream_catalog.specs.Plain.{PlainIndex, PlainCatalog, facts_of}
 use Rattle.stream_catalog.specs.Ways.{plain_way}
-use Rattle.stream_catalog.specs.Lists.{inserted, without, index_name, facts_named, index_named}
+use Rattle.stream_catalog.specs.Lists.{without, index_name, facts_named, index_named}
 use Rattle.stream_catalog.specs.Indices.{folded_index}
 use Rattle.stream_catalog.specs.Units.{with_renamed, swapped, next_done, advanced, advanced_at, unit_from, unit_of}
-use Rattle.stream_catalog.specs.Laws.{IsFinished, UnitsCount, UnitsFinish}
-use Rattle.stream_catalog.specs.Sound.{times, IsUnderWay, IsSoundCatalog}
+use Rattle.stream_catalog.specs.Laws.{UnitsCount, UnitsFinish}
+use Rattle.stream_catalog.specs.Sound.{times, IsUnderWay}
 use Rattle.stream_catalog.proofs.NamedLemmas.{found_name, named_inserted}
 use Rattle.stream_catalog.proofs.CountLemmas.{named_new, times-filter, some_named, apart_of}
 use Rattle.stream_catalog.proofs.ChangeLemmas.{facts_named-facts}

@@ -26,5 +26,7 @@ mod RunLemmas
 mod PlanLemmas
 mod AfterLemmas
 mod FinishLemmas
+mod TestLemmas
+mod TaskLemmas
 mod NameLemmas
 mod NamedKeptLemmas

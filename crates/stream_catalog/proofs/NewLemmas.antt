@@ -186,7 +186,7 @@ pub record MayCreate (f : PlainFacts) (name : List ℕ) (now : ℤ) : Type 0 whe
   pub indices : length f.indices < 10000
   pub index_free : is_taken (first_name name now) f ≡ false
 
-may_create : (f : PlainFacts) (name : List ℕ) (now : ℤ) → create_refusal f name now ≡ None → MayCreate f name now
+pub may_create : (f : PlainFacts) (name : List ℕ) (now : ℤ) → create_refusal f name now ≡ None → MayCreate f name now
 may_create f name now none =
     let sixth : List (Option CatalogError) = when (is_taken (first_name name now) f) (NameTaken (first_name name now)) ∷ [] in
     let fifth : List (Option CatalogError) = when (nat_le most_indices (length f.indices)) (Limit Indices) ∷ sixth in

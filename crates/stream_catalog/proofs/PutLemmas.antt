@@ -75,7 +75,7 @@ facts-updated n g (i ∷ is) keeps = by_test (bytes_eq i.facts.name n) (facts-up
 
 -- ---- tasks: their indices are blocked, so they took no row
 
-not_taken : (n : List ℕ) (c : PlainCatalog) (row : Row) (by : Interval) (rises : Bool) (o : Option PlainIndex) → index_named n c.indices ≡ o → TakesRow c n row → IsTaskOf by rises (option_map (λ i. i.facts) o) → ⊥
+pub not_taken : (n : List ℕ) (c : PlainCatalog) (row : Row) (by : Interval) (rises : Bool) (o : Option PlainIndex) → index_named n c.indices ≡ o → TakesRow c n row → IsTaskOf by rises (option_map (λ i. i.facts) o) → ⊥
 not_taken n c row by rises None is takes holds = holds
 not_taken n c row by rises (Some i) is takes holds = both_ways i.facts.blocked (takes i is).takes holds.0
 

@@ -56,7 +56,7 @@ no_other test (x ∷ xs) none g is_in = by_test (test x) refl none (λ left late
     by_test false is none later = elim is_in [ inl same ↦ ap test same ∙ is | inr among ↦ later none among ]
 
 -- a field that isn't another one of its path is the same
-same_field : (f g : Field) → g.path ≡ f.path → is_other_field f g ≡ false → g ≡ f
+pub same_field : (f g : Field) → g.path ≡ f.path → is_other_field f g ≡ false → g ≡ f
 same_field f g path other = by_tests (kind_number f.kind == kind_number g.kind) (role_number f.role == role_number g.role) refl refl (ap (λ b. b && not ((kind_number f.kind == kind_number g.kind) && (role_number f.role == role_number g.role))) (sym ((bytes_eq-Decides f.path g.path).1 (sym path))) ∙ other)
   where
     made : List ℕ → FieldType → Role → Field

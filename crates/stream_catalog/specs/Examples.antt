@@ -1,5 +1,5 @@
 -- The definitions on small machines, worked out: two rows in one index of two members.
-use Rattle.std.proofs.Common.{◌≡◌, Bool, ℕ, pos, List, [], ◌∷◌, Option, Some, None, true, false, refl, arith, codes, ◌≤◌, ◌*◌, ap}
+use Rattle.std.proofs.Common.{◌≡◌, Bool, ℕ, pos, List, [], ◌∷◌, Option, Some, None, true, false, refl, arith, codes, ◌≤◌, ◌*◌}
 use Rattle.std.specs.Prelude.{ℤ, map, length, not, nat_le, ◌&&◌, Ok, Err}
 use Rattle.std.specs.Fmt.{digits}
 use Rattle.std.specs.Option.{is_some, option_map}
@@ -28,9 +28,10 @@ use Rattle.stream_catalog.specs.declared.answers.PickError.TheVariants.{NoWindow
 use Rattle.stream_catalog.specs.declared.answers.Move.TheVariants.{Remove, Add}
 use Rattle.stream_catalog.specs.declared.facts.HeldIndex.{HeldIndex}
 use Rattle.stream_catalog.specs.declared.facts.TaskFacts.{TaskFacts}
-use Rattle.stream_catalog.specs.Plain.{PlainIndex, PlainStream, PlainCatalog, PlainFacts, facts_of}
+use Rattle.stream_catalog.specs.Plain.{PlainStream, PlainCatalog, PlainFacts, facts_of}
 use Rattle.stream_catalog.specs.Ways.{plain_way, seen_way, see_catalog, kept_rows}
 use Rattle.stream_catalog.specs.Indices.{block_refusal, downsample_refusal, folded_mapping, downsampled, delete_refusal, index_deleted}
+use Rattle.stream_catalog.specs.FactTests.{are_facts_sound}
 use Rattle.stream_catalog.specs.Lists.{when, first_of, template_name, template_named}
 use Rattle.stream_catalog.specs.Names.{most_templates, most_streams, most_indices, is_taken, template_for}
 use Rattle.stream_catalog.specs.Moves.{moves_refusal, moved_all}
@@ -502,7 +503,8 @@ roll_free = refl
 abbrev beside : List ℕ → ℤ → ℤ → PlainFacts
 beside template start end = record (facts_of (two true None [])) {
   streams = stream None ∷ record { facts = record { name = codes "v"; template = codes "u"; generation = 1; members = codes "w" ∷ [] }; life = None } ∷ [];
-  indices = old_facts true ∷ new_facts ∷ record (old_facts true) { name = codes "l"; template = template; start = start; end = end } ∷ record (old_facts false) { name = codes "w"; template = codes "u" } ∷ [];
+  indices = old_facts true ∷ new_facts ∷ record (old_facts true) { name = codes "l"; template = template; start = start; end = end }
+      ∷ record (old_facts false) { name = codes "w"; template = codes "u" } ∷ [];
 }
 
 abbrev add : List ℕ → List ℕ → PlainFacts → Option CatalogError
@@ -555,7 +557,8 @@ pub put_changed_least : template_refusal (facts_of (two false None [])) (remappe
 put_changed_least = refl
 
 -- a changed field is told before a limit
-pub put_changed_first : (ts : List Template) → template_refusal (record (facts_of (two false None [])) { templates = ts }) (remapped (codes "t") other_count) ≡ Some (ChangedField (codes "req") (codes "a"))
+pub put_changed_first : (ts : List Template) →
+    template_refusal (record (facts_of (two false None [])) { templates = ts }) (remapped (codes "t") other_count) ≡ Some (ChangedField (codes "req") (codes "a"))
 put_changed_first ts = refl
 
 -- another name may map the path as it likes
@@ -591,3 +594,14 @@ fold_of_nothing = refl
 -- a reserved name, also of a write index's fold
 pub fold_reserved : downsample_refusal (facts_of (two false None [])) (codes "b") (codes "downsample-c") second ≡ Some Reserved
 fold_reserved = refl
+
+-- ---- the test of facts takes a fold that is under way, and none of an index that takes documents; nor two of one index
+
+pub tested : are_facts_sound (facts_of (two true None (task_of (codes "a") (codes "f") 0 true ∷ []))) ≡ true
+tested = refl
+
+pub tested_open : are_facts_sound (facts_of (two true None (task_of (codes "b") (codes "f") 0 true ∷ []))) ≡ false
+tested_open = refl
+
+pub tested_twice : are_facts_sound (facts_of (two true None (task_of (codes "a") (codes "f") 0 true ∷ task_of (codes "a") (codes "g") 0 true ∷ []))) ≡ false
+tested_twice = refl

@@ -1,5 +1,5 @@
 -- The laws that tie a plain catalogue to what is seen of it.
-use Rattle.std.specs.Prelude.{◌≡◌, ℕ, ℤ, ◌≤◌, ◌<◌, ◌+◌, ◌++◌, Bool, true, false, List, ◌∷◌, map, length, Option, None, Some, IsTrue}
+use Rattle.std.specs.Prelude.{◌≡◌, ◌⊎◌, ◌↔◌, ℕ, ℤ, ◌≤◌, ◌<◌, ◌+◌, ◌++◌, Bool, true, false, List, [], ◌∷◌, map, length, Option, None, Some, IsTrue}
 use Rattle.std.specs.List.{slice_get}
 use Rattle.std.specs.Option.{option_map}
 use Rattle.row_cells.specs.declared.rows.Row.{Row}
@@ -17,7 +17,7 @@ use Rattle.index_names.specs.Backing.{downsample_name}
 use Rattle.index_names.specs.Names.{is_stream_name, is_target_name}
 use Rattle.lifecycle_swap.specs.Lifecycles.{IsLifecycle}
 use Rattle.lifecycle_swap.specs.declared.lifecycles.Lifecycle.{Lifecycle}
-use Rattle.ts_mapping.specs.Facts.{IsTemplate}
+use Rattle.ts_mapping.specs.Facts.{IsMapping, IsTemplate}
 use Rattle.ts_mapping.specs.declared.templates.Template.{Template}
 use Rattle.stream_catalog.specs.declared.answers.Move.{Move}
 use Rattle.stream_catalog.specs.declared.answers.Move.TheVariants.{Remove}
@@ -32,7 +32,8 @@ use Rattle.stream_catalog.specs.Puts.{MayPut, put_into}
 use Rattle.stream_catalog.specs.Rounds.{Running, lifecycle_run}
 use Rattle.stream_catalog.specs.Units.{with_renamed, unit_of}
 use Rattle.stream_catalog.specs.WellNamed.{IsOrigin, IsWellNamed}
-use Rattle.stream_catalog.specs.Sound.{times, IsHeld, IsIndexSound, IsSoundCatalog, IsSeenCatalog}
+use Rattle.stream_catalog.specs.FactTests.{are_facts_sound, are_well_named}
+use Rattle.stream_catalog.specs.Sound.{AreFactsSound, times, IsHeld, IsIndexSound, IsSoundCatalog, IsSeenCatalog}
 
 -- what is seen of a sound catalogue is sound, and seen again itself
 abbrev pub SeenAgain : Type 0
@@ -183,6 +184,34 @@ RolloversJoin = (c : PlainCatalog) (name : List ℕ) (now : ℤ) (s : PlainStrea
 abbrev pub RemovalsEndTasks : Type 0
 RemovalsEndTasks = (f : PlainFacts) (stream index : List ℕ) (before after : List Move) → times index (map task_index (moved_by f (before ++ Remove stream index ∷ after)).tasks) ≡ 0
 
+-- ---- what tasks keep stays
+
+-- whatever has the name of a task's index before and after, the task keeps the same rows of it
+abbrev pub KeepsTasks : PlainCatalog → PlainCatalog → Type 0
+KeepsTasks c d = Each (λ t. (i j : PlainIndex) → index_named t.index c.indices ≡ Some i → index_named t.index d.indices ≡ Some j → kept_rows t j ≡ kept_rows t i) c.tasks
+
+abbrev pub IsOneOf : TaskFacts → List TaskFacts → Type 0
+IsOneOf t [] = ⊥
+IsOneOf t (u ∷ us) = (t ≡ u) ⊎ IsOneOf t us
+
+-- so it is with each change, in either way; a new task comes with a lifecycle run alone, and keeps nothing yet
+pub record TaskRowsStay : Type 0 where
+  pub templates : (c : PlainCatalog) (t : Template) → KeepsTasks c (template_put c t)
+  pub creations : (c : PlainCatalog) (name : List ℕ) (now : ℤ) → create_refusal (facts_of c) name now ≡ None → KeepsTasks c (created c name now)
+  pub stream_deletions : (c : PlainCatalog) (name : List ℕ) → KeepsTasks c (stream_deleted c name)
+  pub lives : (c : PlainCatalog) (name : List ℕ) (life : Lifecycle) → KeepsTasks c (life_set c name life)
+  pub rollovers : (c : PlainCatalog) (name : List ℕ) (now : ℤ) → rollover_refusal (facts_of c) name now ≡ None → KeepsTasks c (rolled_over c name now)
+  pub blocks : (c : PlainCatalog) (n : List ℕ) → KeepsTasks c (blocked_in c n)
+  pub puts : (way : Way) (c : PlainCatalog) (n : List ℕ) (row : Row) → IsSoundCatalog c → TakesRow c n row → KeepsTasks c (put_into way c n row)
+  pub downsamples : (way : Way) (c : PlainCatalog) (source target : List ℕ) (by : Interval) → downsample_refusal (facts_of c) source target by ≡ None →
+      KeepsTasks c (downsampled way c source target by)
+  pub deletions : (c : PlainCatalog) (n : List ℕ) → KeepsTasks c (index_deleted c n)
+  pub moves : (c : PlainCatalog) (moves : List Move) → KeepsTasks c (moved_all c moves)
+  pub units : (way : Way) (c : PlainCatalog) → IsSoundCatalog c → KeepsTasks c (unit_of way c)
+  pub runs : (c : PlainCatalog) (now : ℤ) → KeepsTasks c (lifecycle_run c now).catalog
+  pub begun : (c : PlainCatalog) (now : ℤ) → Each (λ t. IsOneOf t c.tasks ⊎ (t.done ≡ 0)) (lifecycle_run c now).catalog.tasks
+  pub new : (t : TaskFacts) (i : PlainIndex) → t.done ≡ 0 → kept_rows t i ≡ []
+
 -- ---- names stay well formed, in either way
 
 pub record NamesKeep : Type 0 where
@@ -240,6 +269,16 @@ MovesKeepSound = (c : PlainCatalog) (moves : List Move) → IsSoundCatalog c →
 
 abbrev pub RunsKeepSound : Type 0
 RunsKeepSound = (c : PlainCatalog) (now : ℤ) → IsSoundCatalog c → IsSoundCatalog (lifecycle_run c now).catalog
+
+-- ---- tests
+
+-- what is sound is told by tests: those of templates and mappings, which may be made before, and one of all else
+abbrev pub FactsAreTested : Type 0
+FactsAreTested = (f : PlainFacts) → Each IsTemplate f.templates → Each (λ i. IsMapping i.mapping) f.indices → IsTrue (are_facts_sound f) ↔ AreFactsSound f
+
+-- so with names, where the origins of indices are known to be names of backing indices
+abbrev pub NamesAreTested : Type 0
+NamesAreTested = (c : PlainCatalog) → Each (λ i. IsOrigin i.facts.origin) c.indices → IsTrue (are_well_named c) ↔ IsWellNamed c
 
 -- ---- what the code keeps
 

@@ -10,5 +10,6 @@ pub mod Rounds
 pub mod Puts
 pub mod Units
 pub mod Sound
+pub mod FactTests
 pub mod Laws
 pub mod Examples

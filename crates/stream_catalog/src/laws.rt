@@ -1,6 +1,6 @@
 //! The laws that tie a plain catalogue to what is seen of it, for crates above.
 ghost use Rattle.stream_catalog.specs.Laws.{FoundIsSound, Keeps, LookupsStay, PutsKeepShowing, SoundShows, SeenAgain, FactsStay, ChangesGoThrough, RunsGoThrough, PutsGoThrough, RowTestsStay, SeriesStay, DownsamplesGoThrough, UnitsGoThrough, TasksKeep, ShownRows};
-ghost use Rattle.stream_catalog.specs.Laws.{FoundIsHeld, FoundAgree, UnitsGoOn, NamesKeep, UnitsEnd, UnitsCount, UnitsFinish, RolloversJoin, RemovalsEndTasks};
+ghost use Rattle.stream_catalog.specs.Laws.{FoundIsHeld, FoundAgree, UnitsGoOn, NamesKeep, UnitsEnd, UnitsCount, UnitsFinish, TaskRowsStay, FactsAreTested, NamesAreTested, RolloversJoin, RemovalsEndTasks};
 ghost use Rattle.stream_catalog.specs.Laws.{BlocksKeepSound, CreationsKeepSound, DeletionsKeepSound, DownsamplesKeepSound, LivesKeepSound, MovesKeepSound, PutsKeepSound, RolloversKeepSound, RunsKeepSound, StreamDeletionsKeepSound, TemplatesKeepSound, UnitsKeepSound};
 
 /// What is seen of a sound catalogue is sound, and seen again itself.
@@ -40,9 +40,10 @@ pub fn changes_go_through()
     ensures units { UnitsGoThrough }
 {}
 
-/// What a task keeps of what is shown is what it keeps of all rows.
+/// What a task keeps of what is shown is what it keeps of all rows; and it keeps that whatever else is changed.
 pub fn tasks_keep()
-    ensures { TasksKeep }
+    ensures shown { TasksKeep }
+    ensures stays { TaskRowsStay }
 {}
 
 /// A unit folds one series more of the oldest task's index; with the last one, or where there is none, its fold takes the
@@ -83,6 +84,12 @@ pub fn changes_keep_sound()
     ensures rollovers { RolloversKeepSound }
     ensures moves { MovesKeepSound }
     ensures runs { RunsKeepSound }
+{}
+
+/// Whether facts are sound and names well formed is told by tests, next to those of templates, mappings and origins.
+pub fn facts_are_tested()
+    ensures facts { FactsAreTested }
+    ensures names { NamesAreTested }
 {}
 
 /// The rows of an index that is seen again itself fit its schema, in order, and are few.

@@ -9,6 +9,7 @@ mod laws;
 pub use answers::{CatalogError, Move, PickError, Ran, Rolled, What};
 pub use facts::{HeldIndex, StreamFacts, TaskFacts};
 pub use laws::{
-    changes_go_through, changes_keep_sound, indices_are_sound, names_keep, removals_end_tasks,
-    rollovers_join, seen_again, seen_stays, shown_rows, tasks_keep, tests_stay, units_go_on,
+    changes_go_through, changes_keep_sound, facts_are_tested, indices_are_sound, names_keep,
+    removals_end_tasks, rollovers_join, seen_again, seen_stays, shown_rows, tasks_keep, tests_stay,
+    units_go_on,
 };

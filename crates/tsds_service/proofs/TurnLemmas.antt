@@ -18,7 +18,7 @@ use Rattle.tsds_service.specs.Machine.{Machine, see, IsSound}
 use Rattle.tsds_service.specs.Messages.{Told, see_told, told_of, told_by, message_told, moment_by, moment_told}
 use Rattle.tsds_service.specs.Questions.{Asking}
 use Rattle.tsds_service.specs.Step.{Stepped, see_stepped, step}
-use Rattle.tsds_service.specs.Turns.{Turn, asks, sends, says, works, Standing, see_standing, Turned, see_turned, written_if, by_step, by_message, turned, with_reply, replies, behind, last_written, IsTurn}
+use Rattle.tsds_service.specs.Turns.{Turn, asks, sends, comes, says, works, Standing, see_standing, Turned, see_turned, written_if, by_step, by_message, turned, with_reply, replies, behind, last_written, IsTurn}
 
 none_not_some : {A : Type 0} {a : A} → None ≡ Some a → ⊥
 none_not_some e = cc
@@ -114,12 +114,15 @@ module _ (again : SeenAgain) (steps : StepsRefine) (units : UnitsRefine) (steps_
   turn-see s (sends method target body) sound short =
       ap (by_message s.present) (message-see s.machine s.present method target body sound.machine sound.present short)
       ∙ by_message-see s.present (message_told asking plain_way s.machine s.present method target body)
+  turn-see s (comes method target body now) sound is =
+      ap (by_message now) (message-see s.machine now method target body sound.machine is.1 is.0) ∙ by_message-see now (message_told asking plain_way s.machine now method target body)
   turn-see s (says text) sound is = refl
   turn-see s works sound is = ap (λ (n : Machine). record { reply = None; written = None; after = record s { machine = n } }) (units s.machine sound.machine)
 
   turn-sound : (s : Standing) (t : Turn) → IsSoundStanding s → IsTurn t → IsSoundStanding (turned asking plain_way s t).after
   turn-sound s (asks message now) sound is = record { machine = steps_keep asking s.machine message now sound.machine is.0 is.1; present = is.1 }
   turn-sound s (sends method target body) sound short = record { machine = message-sound s.machine s.present method target body sound.machine sound.present short; present = sound.present }
+  turn-sound s (comes method target body now) sound is = record { machine = message-sound s.machine now method target body sound.machine is.1 is.0; present = is.1 }
   turn-sound s (says text) sound is = record { machine = sound.machine; present = moment_instant s.present text sound.present }
   turn-sound s works sound is = record { machine = units_keep s.machine sound.machine; present = sound.present }
 
@@ -136,6 +139,9 @@ module _ (again : SeenAgain) (steps : StepsRefine) (units : UnitsRefine) (steps_
   turn-written s (sends method target body) sound short =
       let told = message_told asking plain_way s.machine s.present method target body in
       if-sound told.wrote told.stepped (message-stepped s.machine s.present method target body sound.machine sound.present short)
+  turn-written s (comes method target body now) sound is =
+      let told = message_told asking plain_way s.machine now method target body in
+      if-sound told.wrote told.stepped (message-stepped s.machine now method target body sound.machine is.1 is.0)
   turn-written s (says text) sound is = tt
   turn-written s works sound is = tt
 

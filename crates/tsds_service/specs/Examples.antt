@@ -8,6 +8,8 @@ use Rattle.reply_json.specs.Trees as tree
 use Rattle.reply_json.specs.declared.out.Out.{Flag, Num, Word as Quoted, List as Listed, Object}
 use Rattle.bulk_json.specs.declared.action.Action.TheVariants.{Create, Index}
 use Rattle.bulk_json.specs.declared.items.Item.{Item}
+use Rattle.edge_face.specs.Limits.{last_instant}
+use Rattle.index_names.specs.Patterns.{pattern_takes}
 use Rattle.json_walk.specs.Leaves as leaf
 use Rattle.lifecycle_swap.specs.declared.lifecycles.Lifecycle.{Lifecycle}
 use Rattle.row_cells.specs.RowLists.{has_place}
@@ -35,6 +37,7 @@ use Rattle.time_text.specs.declared.units.Unit.TheVariants.{S}
 use Rattle.synthetic_source.specs.Normal.{norm}
 use Rattle.synthetic_source.specs.Replies.{out_of}
 use Rattle.ts_mapping.specs.declared.kinds.MapKind.TheVariants.{Shape}
+use Rattle.ts_mapping.specs.Templates.{template_of}
 use Rattle.ts_mapping.specs.declared.templates.Mapping.{Mapping}
 use Rattle.ts_mapping.specs.declared.templates.Template.{Template}
 use Rattle.downsample_fold.specs.Direct.{down}
@@ -42,18 +45,20 @@ use Rattle.rest_request.specs.Body.{object_of}
 use Rattle.rest_request.specs.Message.{flush}
 use Rattle.rest_request.specs.Table.{request_of}
 use Rattle.stream_catalog.specs.Rounds.{lifecycle_run}
-use Rattle.stream_catalog.specs.Streams.{next_name, rolled_names}
+use Rattle.stream_catalog.specs.Streams.{template_refusal, next_name, rolled_names}
 use Rattle.stream_catalog.specs.Units.{unit_of}
-use Rattle.stream_catalog.specs.declared.answers.What.TheVariants.{Streams}
+use Rattle.stream_catalog.specs.declared.answers.What.TheVariants.{Templates, Streams}
+use Rattle.stream_catalog.specs.declared.answers.CatalogError.TheVariants.{ChangedField, Limit}
 use Rattle.tsds_service.specs.Machine.{Machine, unit}
 use Rattle.tsds_service.specs.Messages.{message_told, moment_by}
 use Rattle.tsds_service.specs.Questions.{Asking, facts_in, joined_fields, samples_of, no_document, document_reply}
 use Rattle.tsds_service.specs.Replies.{ack, interval_word, ran_reply, rolled_reply, tasks_reply}
-use Rattle.tsds_service.specs.Step.{told, downsample_by, get_document, modify, run_lifecycle, step}
-use Rattle.tsds_service.specs.Turns.{asks, sends, works, Standing, replies, behind, last_written}
+use Rattle.tsds_service.specs.Step.{told, put_template, put_stream, rollover, block, delete_index, downsample_by, get_document, modify, run_lifecycle, step}
+use Rattle.tsds_service.specs.declared.reply.Reply.{Reply}
+use Rattle.tsds_service.specs.Turns.{asks, sends, comes, works, Standing, replies, behind, last_written}
 use Rattle.tsds_service.specs.Bulk.{Outcome, taken, barred, after_outcome, by_document, by_key, by_place, item_outcome, outcomes_of, item_tree, bulk_reply}
 use Rattle.tsds_service.specs.Causes as cause
-use Rattle.tsds_service.specs.Causes.{Cause, ItemCause, refused, said, item_said, only_create, no_stream, no_object, bad_time, outside, blocked, bad_document, no_routing, long_key, conflict, full}
+use Rattle.tsds_service.specs.Causes.{Cause, ItemCause, wrong, reply_of, refused, said, item_said, only_create, no_stream, no_object, bad_time, outside, blocked, bad_document, no_routing, long_key, conflict, full}
 
 abbrev schema : Schema
 schema = record {
@@ -276,13 +281,96 @@ moment_earlier = refl
 pub moment_unread : moment_by (pos 5) None ≡ record { reply = Some (refused cause.bad_moment); now = pos 5 }
 moment_unread = refl
 
+-- ---- what a catalogue refuses, through the step to the text; the machine stays
+
+abbrev argues : List ℕ → Reply
+argues reason = reply_of (wrong 400 (codes "illegal_argument_exception") reason)
+
+abbrev plain : Machine
+plain = machine false None []
+
+pub step_nothing : block plain (codes "x") ≡ told plain (reply_of (wrong 404 (codes "index_not_found_exception") (codes "no such index [x]")))
+step_nothing = refl
+
+pub step_taken : put_stream plain (codes "s") ≡ told plain (reply_of (wrong 400 (codes "resource_already_exists_exception") (codes "[s] already exists")))
+step_taken = refl
+
+pub step_reserved : put_stream plain (codes "downsample-x") ≡ told plain (argues (codes "name [downsample-x] is reserved"))
+step_reserved = refl
+
+pub step_untaken : put_stream plain (codes "x") ≡ told plain (argues (codes "no matching index template for [x]"))
+unfolding pattern_takes
+step_untaken = refl
+
+pub step_write : delete_index plain (codes "b") ≡ told plain (argues (codes "[b] is the write index of [s]"))
+step_write = refl
+
+pub step_open : downsample_by plain_way plain (codes "a") (codes "c") (Some second) ≡ told plain (argues (codes "[a] must be blocked for writes"))
+step_open = refl
+
+-- moves
+abbrev move_of : List ℕ → List ℕ → Data
+move_of action index = object (member action (object (member (codes "data_stream") (string (codes "s")) (member (codes "index") (string index) no_members))) no_members)
+
+abbrev move_one : List ℕ → List ℕ → Data
+move_one action index = object (member (codes "actions") (array (element (move_of action index) no_items)) no_members)
+
+-- with an index in no stream
+abbrev beside : List ℕ → Machine
+beside template = record plain {
+  catalog = record (two false None []) {
+    indices = first_index false ∷ record { facts = last_facts; rows = [] } ∷ record { facts = record (first_facts true) { name = codes "l"; template = template }; rows = [] } ∷ [];
+  };
+}
+
+pub step_not_member : modify plain (move_one (codes "remove_backing_index") (codes "c")) ≡ told plain (argues (codes "[c] is not a backing index of [s]"))
+step_not_member = refl
+
+pub step_member : modify plain (move_one (codes "add_backing_index") (codes "a")) ≡ told plain (argues (codes "[a] is a backing index of [s]"))
+step_member = refl
+
+pub step_mapped : modify (beside (codes "u")) (move_one (codes "add_backing_index") (codes "l")) ≡ told (beside (codes "u")) (argues (codes "[l] has another mapping than [s]"))
+step_mapped = refl
+
+pub step_window : modify (beside (codes "t")) (move_one (codes "add_backing_index") (codes "l")) ≡ told (beside (codes "t")) (argues (codes "window of [l] does not fit [s]"))
+step_window = refl
+
+-- rollovers
+abbrev ending : ℤ → ℕ → Machine
+ending end generation = record plain {
+  catalog = record (two false None []) {
+    streams = record { facts = record { name = codes "s"; template = codes "t"; generation = generation; members = codes "a" ∷ codes "b" ∷ [] }; life = None } ∷ [];
+    indices = first_index false ∷ record { facts = record last_facts { end = end }; rows = [] } ∷ [];
+  };
+}
+
+pub step_over : rollover (ending last_instant 2) (codes "s") ≡ told (ending last_instant 2) (argues (codes "no time is left after [b]"))
+step_over = refl
+
+pub step_generations : rollover (ending (pos 20000) 999_999) (codes "s") ≡ told (ending (pos 20000) 999_999) (argues (codes "limit of [generations] reached"))
+step_generations = refl
+
+-- templates, of whatever body
+pub step_changed : (body : Data) → template_refusal (facts_of (two false None [])) (template_of (codes "t") body) ≡ Some (ChangedField (codes "p") (codes "i")) →
+    put_template plain (codes "t") body None ≡ told plain (argues (codes "field [p] is mapped in another way in [i]"))
+step_changed body is = rw is refl
+
+pub step_many : (body : Data) → template_refusal (facts_of (two false None [])) (template_of (codes "t") body) ≡ Some (Limit Templates) →
+    put_template plain (codes "t") body None ≡ told plain (argues (codes "limit of [templates] reached"))
+step_many body is = rw is refl
+
+pub step_faulty : (body : Data) → put_template plain (codes "t") body (Some (record { kind = Shape; path = codes "p" }))
+    ≡ told plain (reply_of (wrong 400 (codes "mapper_parsing_exception") (codes "Shape [p]")))
+step_faulty body = refl
+
 -- ---- messages
 
 abbrev standing : Machine → Standing
 standing m = record { machine = m; present = pos 15000 }
 
 -- a reading that is refused leaves the moment, and the task goes on by a series all the same
-pub told_refused : (asking : Asking) → message_told asking plain_way (folding 0) (pos 16000) (codes "GET") (codes "x") [] ≡ record { reply = refused cause.no_such_path; stepped = folding 0; after = folding 1; wrote = false }
+pub told_refused : (asking : Asking) →
+    message_told asking plain_way (folding 0) (pos 16000) (codes "GET") (codes "x") [] ≡ record { reply = refused cause.no_such_path; stepped = folding 0; after = folding 1; wrote = false }
 unfolding message_told request_of unit_of
 told_refused asking = refl
 
@@ -300,6 +388,12 @@ pub written_flush : (asking : Asking) (method target body : List ℕ) → reques
     last_written asking plain_way None (standing (kept_at 0 (pos 15000))) (sends method target body ∷ works ∷ []) ≡ Some (kept_at 0 (pos 15000))
 unfolding message_told step unit_of
 written_flush asking method target body is = rw is refl
+
+-- one that comes at a moment of its own makes that the present, and is told by it
+pub written_later : (asking : Asking) (method target body : List ℕ) → request_of method target body ≡ Ok flush →
+    last_written asking plain_way None (standing (kept_at 0 (pos 15000))) (comes method target body (pos 16000) ∷ []) ≡ Some (kept_at 0 (pos 16000))
+unfolding message_told step unit_of
+written_later asking method target body is = rw is refl
 
 -- ---- a bulk request: each item sees what those before it left
 

@@ -17,6 +17,8 @@ pub data Turn : Type 0 where
   asks : Message → ℤ → Turn
   -- a request as it is sent, by method, target and body, at the present of a script; a unit follows
   sends : List ℕ → List ℕ → List ℕ → Turn
+  -- the same at a moment of its own
+  comes : List ℕ → List ℕ → List ℕ → ℤ → Turn
   -- a moment line of a script
   says : List ℕ → Turn
   -- a unit
@@ -57,6 +59,7 @@ by_moment m t = record { reply = t.reply; written = None; after = record { machi
 abbrev pub turned : Asking → Way → Standing → Turn → Turned
 turned asking way s (asks message now) = by_step now (step asking way s.machine message now)
 turned asking way s (sends method target body) = by_message s.present (message_told asking way s.machine s.present method target body)
+turned asking way s (comes method target body now) = by_message now (message_told asking way s.machine now method target body)
 turned asking way s (says text) = by_moment s.machine (moment_told s.present text)
 turned asking way s works = record { reply = None; written = None; after = record s { machine = unit way s.machine } }
 
@@ -82,9 +85,10 @@ last_written asking way before s (t ∷ ts) = last_written asking way (option_or
 
 -- ---- which turns come
 
--- requests that are read come at instants, and bodies are within their length
+-- moments that come with requests are instants, and bodies are within their length
 abbrev pub IsTurn : Turn → Type 0
 IsTurn (asks message now) = IsAsked message × IsInstant now
 IsTurn (sends method target body) = length body ≤ body_limit
+IsTurn (comes method target body now) = (length body ≤ body_limit) × IsInstant now
 IsTurn (says text) = Unit {0}
 IsTurn works = Unit {0}
