@@ -92,9 +92,10 @@ kind_tells (Some by) blocked schema = and_tells schema.folded blocked (own_tells
 held_tells : (f : PlainFacts) (i : HeldIndex) → IsMapping i.mapping → Decides (is_held f i) (IsHeld f i)
 held_tells f i mapping =
     let tells = and_tells (is_instant i.start) _ (instant_tells i.start) (and_tells (is_instant i.end) _ (instant_tells i.end) (and_tells (int_lt i.start i.end) _ (lt_tells i.start i.end)
-        (and_tells (is_kind i.interval i.blocked i.mapping.schema) _ (kind_tells i.interval i.blocked i.mapping.schema) (there_tells (template_named i.template f.templates))))) in
-    (λ is. let p = tells.0 is in record { begins = p.0; ends = p.1.0; some = p.1.1.0; mapping = mapping; kind = p.1.1.1.0; template = p.1.1.1.1 },
-    λ is. tells.1 (is.begins, (is.ends, (is.some, (is.kind, is.template)))))
+    (and_tells (is_kind i.interval i.blocked i.mapping.schema) _ (kind_tells i.interval i.blocked i.mapping.schema) (there_tells (template_named i.template f.templates))))) in (
+      λ is. let p = tells.0 is in record { begins = p.0; ends = p.1.0; some = p.1.1.0; mapping = mapping; kind = p.1.1.1.0; template = p.1.1.1.1 },
+      λ is. tells.1 (is.begins, (is.ends, (is.some, (is.kind, is.template)))),
+    )
 
 each_held : (f : PlainFacts) (is : List HeldIndex) → Each (λ i. IsMapping i.mapping) is → Decides (list_all (is_held f) is) (Each (IsHeld f) is)
 each_held f [] mapped = (λ is. tt, λ is. refl)
@@ -121,13 +122,14 @@ life_tells (Some life) = own_tells (is_lifecycle life)
 stream_tells : (f : PlainFacts) (s : PlainStream) → Decides (is_stream f s) (IsStream f s)
 stream_tells f s =
     let members = each_tells (λ m. is_member_of s.facts.template (facts_named m f.indices)) (λ m. IsMemberOf s.facts.template (facts_named m f.indices))
-        (λ m. member_tells s.facts.template (facts_named m f.indices)) s.facts.members in
+    (λ m. member_tells s.facts.template (facts_named m f.indices)) s.facts.members in
     let tells = and_tells (nat_le s.facts.generation greatest_generation) _ (nat_le_tells s.facts.generation greatest_generation) (and_tells (is_life s.life) _ (life_tells s.life)
-        (and_tells (is_some (template_named s.facts.template f.templates)) _ (there_tells (template_named s.facts.template f.templates))
-        (and_tells (nat_lt 0 (length s.facts.members)) _ (nat_lt_tells 0 (length s.facts.members))
-        (and_tells (list_all (λ m. is_member_of s.facts.template (facts_named m f.indices)) s.facts.members) _ members (windows_tell (map (λ m. facts_named m f.indices) s.facts.members)))))) in
-    (λ is. let p = tells.0 is in record { generation = p.0; life = p.1.0; template = p.1.1.0; some = p.1.1.1.0; members = p.1.1.1.1.0; windows = p.1.1.1.1.1 },
-    λ is. tells.1 (is.generation, (is.life, (is.template, (is.some, (is.members, is.windows))))))
+    (and_tells (is_some (template_named s.facts.template f.templates)) _ (there_tells (template_named s.facts.template f.templates))
+    (and_tells (nat_lt 0 (length s.facts.members)) _ (nat_lt_tells 0 (length s.facts.members))
+    (and_tells (list_all (λ m. is_member_of s.facts.template (facts_named m f.indices)) s.facts.members) _ members (windows_tell (map (λ m. facts_named m f.indices) s.facts.members)))))) in (
+      λ is. let p = tells.0 is in record { generation = p.0; life = p.1.0; template = p.1.1.0; some = p.1.1.1.0; members = p.1.1.1.1.0; windows = p.1.1.1.1.1 },
+      λ is. tells.1 (is.generation, (is.life, (is.template, (is.some, (is.members, is.windows))))),
+    )
 
 same_tells : (a b : Bool) → Decides (is_same a b) (a ≡ b)
 same_tells true b = (λ is. sym is, λ is. sym is)
@@ -146,7 +148,7 @@ task_tells : (by : Interval) (rises : Bool) (o : Option HeldIndex) → Decides (
 task_tells by rises None = (λ is. absurd (no is), λ is. absurd is)
 task_tells by rises (Some i) =
     let tells = and_tells (i.blocked && is_none (interval_fault i.interval by)) (keeps_mark i.interval i.mapping.schema.rises rises)
-        (and_tells i.blocked (is_none (interval_fault i.interval by)) (own_tells i.blocked) (nothing_tells (interval_fault i.interval by))) (mark_tells i.interval i.mapping.schema.rises rises) in
+    (and_tells i.blocked (is_none (interval_fault i.interval by)) (own_tells i.blocked) (nothing_tells (interval_fault i.interval by))) (mark_tells i.interval i.mapping.schema.rises rises) in
     (λ is. let p = tells.0 is in (p.0.0, p.0.1, p.1), λ is. tells.1 ((is.0, is.1), is.2))
 
 -- ---- fields
@@ -230,33 +232,42 @@ pub facts_are_tested : FactsAreTested
 facts_are_tested f templates mapped =
     let indices = map form_of f.indices in
     let each = and_tells (list_all (is_held f) f.indices) _ (each_held f f.indices mapped) (and_tells (list_all (is_stream f) f.streams) _ (each_tells (is_stream f) (IsStream f) (stream_tells f) f.streams)
-        (each_tells (λ t. is_task_of t.by t.rises (facts_named t.index f.indices)) (λ t. IsTaskOf t.by t.rises (facts_named t.index f.indices)) (λ t. task_tells t.by t.rises (facts_named t.index f.indices)) f.tasks)) in
+    (each_tells (λ t. is_task_of t.by t.rises (facts_named t.index f.indices)) (λ t. IsTaskOf t.by t.rises (facts_named t.index f.indices)) (λ t. task_tells t.by t.rises (facts_named t.index f.indices)) f.tasks)) in
     let forms = and_tells (all_agree indices indices) _ (forms_tell indices indices) (forms_tell indices (map template_form f.templates)) in
     let order = and_tells (keys_ascend (map template_name f.templates)) _ (ascend_tells (map template_name f.templates))
-        (and_tells (keys_ascend (map stream_name f.streams)) _ (ascend_tells (map stream_name f.streams)) (ascend_tells (map facts_name f.indices))) in
+    (and_tells (keys_ascend (map stream_name f.streams)) _ (ascend_tells (map stream_name f.streams)) (ascend_tells (map facts_name f.indices))) in
     let once = and_tells (are_once (names_of f)) _ (once_tells (names_of f)) (and_tells (are_once (flat_map (λ s. s.facts.members) f.streams)) _ (once_tells (flat_map (λ s. s.facts.members) f.streams)) (once_tells (map (λ t. t.index) f.tasks))) in
     let few = and_tells (nat_le (length f.templates) most_templates) _ (nat_le_tells (length f.templates) most_templates)
-        (and_tells (nat_le (length f.streams) most_streams) _ (nat_le_tells (length f.streams) most_streams) (nat_le_tells (length f.indices) most_indices)) in
-    let tells = and_tells (are_each_sound f) _ each (and_tells (do_forms_agree f) _ forms (and_tells (do_lists_ascend f) _ order (and_tells (are_names_once f) _ once few))) in
-    (λ is. let p = tells.0 is in record {
-      templates = templates;
-      indices = p.0.0;
-      streams = p.0.1.0;
-      tasks = p.0.1.1;
-      indices_agree = p.1.0.0;
-      templates_agree = p.1.0.1;
-      template_order = p.1.1.0.0;
-      stream_order = p.1.1.0.1.0;
-      index_order = p.1.1.0.1.1;
-      names_once = p.1.1.1.0.0;
-      members_once = p.1.1.1.0.1.0;
-      tasks_once = p.1.1.1.0.1.1;
-      few_templates = p.1.1.1.1.0;
-      few_streams = p.1.1.1.1.1.0;
-      few_indices = p.1.1.1.1.1.1;
-    },
-    λ is. tells.1 ((is.indices, (is.streams, is.tasks)), ((is.indices_agree, is.templates_agree), ((is.template_order, (is.stream_order, is.index_order)),
-      ((is.names_once, (is.members_once, is.tasks_once)), (is.few_templates, (is.few_streams, is.few_indices)))))))
+    (and_tells (nat_le (length f.streams) most_streams) _ (nat_le_tells (length f.streams) most_streams) (nat_le_tells (length f.indices) most_indices)) in
+    let tells = and_tells (are_each_sound f) _ each (and_tells (do_forms_agree f) _ forms (and_tells (do_lists_ascend f) _ order (and_tells (are_names_once f) _ once few))) in (
+      λ is. let p = tells.0 is in record {
+        templates = templates;
+        indices = p.0.0;
+        streams = p.0.1.0;
+        tasks = p.0.1.1;
+        indices_agree = p.1.0.0;
+        templates_agree = p.1.0.1;
+        template_order = p.1.1.0.0;
+        stream_order = p.1.1.0.1.0;
+        index_order = p.1.1.0.1.1;
+        names_once = p.1.1.1.0.0;
+        members_once = p.1.1.1.0.1.0;
+        tasks_once = p.1.1.1.0.1.1;
+        few_templates = p.1.1.1.1.0;
+        few_streams = p.1.1.1.1.1.0;
+        few_indices = p.1.1.1.1.1.1;
+      },
+      λ is. tells.1 (
+        (is.indices, (is.streams, is.tasks)),
+        (
+          (is.indices_agree, is.templates_agree),
+          (
+            (is.template_order, (is.stream_order, is.index_order)),
+            ((is.names_once, (is.members_once, is.tasks_once)), (is.few_templates, (is.few_streams, is.few_indices))),
+          ),
+        ),
+      ),
+    )
 
 -- ---- names
 
@@ -268,7 +279,7 @@ index_names_tell (i ∷ is) origins =
 pub names_are_tested : NamesAreTested
 names_are_tested c origins =
     let tells = and_tells (list_all (λ t. is_stream_name (template_name t)) c.templates) _ (each_tells (λ t. is_stream_name (template_name t)) IsTemplateNamed (λ t. own_tells (is_stream_name t.name)) c.templates)
-        (and_tells (list_all (λ s. is_stream_name (stream_name s)) c.streams) _ (each_tells (λ s. is_stream_name (stream_name s)) IsStreamNamed (λ s. own_tells (is_stream_name s.facts.name)) c.streams)
-        (and_tells (list_all (λ i. is_index_name i.facts.name) c.indices) _ (index_names_tell c.indices origins)
-        (each_tells (λ t. is_target_name t.target) IsTaskNamed (λ t. own_tells (is_target_name t.target)) c.tasks))) in
+    (and_tells (list_all (λ s. is_stream_name (stream_name s)) c.streams) _ (each_tells (λ s. is_stream_name (stream_name s)) IsStreamNamed (λ s. own_tells (is_stream_name s.facts.name)) c.streams)
+    (and_tells (list_all (λ i. is_index_name i.facts.name) c.indices) _ (index_names_tell c.indices origins)
+    (each_tells (λ t. is_target_name t.target) IsTaskNamed (λ t. own_tells (is_target_name t.target)) c.tasks))) in
     (λ is. let p = tells.0 is in record { templates = p.0; streams = p.1.0; indices = p.1.1.0; tasks = p.1.1.1 }, λ is. tells.1 (is.templates, (is.streams, (is.indices, is.tasks))))
