@@ -54,8 +54,8 @@ at_end n reader left shows zero = (by_how shows.shown.how, (shows.shown.none zer
 
 -- a line that is shown is taken
 pub takes_line : (line : List ℕ) (n : ℕ) (before shown after : Reading) (old new : Option (List ℕ)) → left_of shown new ≡ left_of before old → Grew before.pending shown.pending old new → shown.answered ≡ before.answered
-    → ShowsLine n shown new → 0 < n → line ≡ line_of (take n shown.pending) → after ≡ record { pending = drop n shown.pending; answered = shown.answered + n; refused = shown.refused; ended = shown.ended } → TakesLine line before after old new
-takes_line line n before shown after old new kept grown counted shows some is passed =
+    → (before.ended ≡ true → shown.pending ≡ before.pending) → ShowsLine n shown new → 0 < n → line ≡ line_of (take n shown.pending) → after ≡ record { pending = drop n shown.pending; answered = shown.answered + n; refused = shown.refused; ended = shown.ended } → TakesLine line before after old new
+takes_line line n before shown after old new kept grown counted still shows some is passed =
     let inside = shows.shown.inside in
     let long : length (take n shown.pending) ≡ n = omega (arith, length-take n shown.pending, inside) in
     let whole : take n shown.pending ++ after.pending ≡ shown.pending = ap (λ r. take n shown.pending ++ r.pending) passed ∙ take-append-drop n shown.pending in
@@ -69,6 +69,7 @@ takes_line line n before shown after old new kept grown counted shows some is pa
       how = subst (λ l. EndsInNewline (length (take n shown.pending)) l ⊎ EndsInput (length (take n shown.pending)) l after.ended) (sym whole)
           (subst (λ k. EndsInNewline k shown.pending ⊎ EndsInput k shown.pending after.ended) (sym long)
           (subst (λ r. EndsInNewline n shown.pending ⊎ EndsInput n shown.pending r.ended) (sym passed) shows.shown.how));
+      stays = λ ended. sym (still ended) ∙ sym whole;
       some = omega arith;
       short = shows.short;
       counted = ap (λ r. r.answered) passed ∙ ap (λ k. k + n) counted ∙ ap (λ k. before.answered + k) (sym long);

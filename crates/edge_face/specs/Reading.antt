@@ -55,7 +55,7 @@ CauseOf NoMemory reader left before now = Unit {0}
 
 -- a line was answered: its piece is the first of all that was left, which goes on behind it. What holds where the source tells
 -- nothing: the bytes that waited and those that were taken are the piece and the bytes that wait now, and a newline or the end of the
--- source ended the piece
+-- source ended the piece; once it has ended none are taken
 pub record TakesLine (line : List ℕ) (before after : Reading) (old new : Option (List ℕ)) : Type 0 where
   pub piece : List ℕ
   pub line_is : line ≡ line_of piece
@@ -64,6 +64,7 @@ pub record TakesLine (line : List ℕ) (before after : Reading) (old new : Optio
   pub rest : IfSome (left_of before old) (λ all. left_of after new ≡ Some (after_piece all))
   pub grew : Grew before.pending (piece ++ after.pending) old new
   pub how : EndsInNewline (length piece) (piece ++ after.pending) ⊎ EndsInput (length piece) (piece ++ after.pending) after.ended
+  pub stays : before.ended ≡ true → before.pending ≡ piece ++ after.pending
   pub some : 0 < length piece
   pub short : length (strip_last 10 piece) ≤ line_limit
   pub counted : after.answered ≡ before.answered + length piece

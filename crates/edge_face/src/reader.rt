@@ -100,6 +100,7 @@ impl LineReader {
         ensures knows { KnowsEnd self.new.ended (S.left source.new) }
         ensures still { self.new.ended ≡ false → self.old.ended ≡ false }
         ensures asks_no_more { self.old.ended ≡ true → source.new ≡ source.old }
+        ensures stays { self.old.ended ≡ true → self.new.pending ≡ self.old.pending }
         ensures counted { self.new.answered ≡ self.old.answered }
         ensures within { self.new.answered ≤ input_limit }
         ensures found { IfOk result (λ n. ShowsLine n self.new (S.left source.new)) }
@@ -173,6 +174,7 @@ impl LineReader {
         ensures knows { KnowsEnd self.new.ended (S.left source.new) }
         ensures still { self.new.ended ≡ false → self.old.ended ≡ false }
         ensures asks_no_more { self.old.ended ≡ true → source.new ≡ source.old }
+        ensures stays { self.old.ended ≡ true → OnErr result (self.new.pending ≡ self.old.pending) }
         ensures counted { OnErr result (self.new.answered ≡ self.old.answered) }
         ensures refused { IfErr result (λ e. e ≢ LineError.NoMemory → self.new.refused ≡ Some e) }
         ensures goes_on { result ≡ Err LineError.NoMemory → self.new.refused ≡ None }
