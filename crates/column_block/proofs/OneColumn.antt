@@ -18,7 +18,8 @@ use Rattle.row_cells.specs.Each.{Each}
 use Rattle.column_block.specs.Rules.{IsText, IsTextRow, IsColumnOf, KeepsRules, kind_of, rows_of}
 use Rattle.row_cells.specs.Dimensions.{text_bytes}
 use Rattle.column_block.specs.Spelling.{IsIn, IsAhead, IsTableOf, Spells, high, low, whole_of, joined, lengths, ordinal, ordinals, six_lists, table_bytes}
-use Rattle.packed_lists.specs.Laws.Spelled.{AreAlike, one-each, same-each}
+use Rattle.packed_lists.specs.Lists.{AreAlike}
+use Rattle.packed_lists.specs.Laws.Spelled.{one-each, same-each}
 use Rattle.packed_lists.specs.Laws.Fronts.{same-fronts, same-nums}
 use Rattle.column_block.specs.HalfLaws.{joined as halves-joined}
 use Rattle.column_block.proofs.Presences.{flags-are, length-present, spread-present}

@@ -14,7 +14,8 @@ use Rattle.row_cells.specs.Each.{Each}
 use Rattle.column_block.specs.Rules.{AreParts}
 use Rattle.column_block.specs.Spelling.{Spells, six_lists, high, low}
 use Rattle.column_block.proofs.Aheads.{flags-known, flags-spread, present-spread, presence-size}
-use Rattle.packed_lists.specs.Laws.Spelled.{AreAlike, same-each}
+use Rattle.packed_lists.specs.Lists.{AreAlike}
+use Rattle.packed_lists.specs.Laws.Spelled.{same-each}
 use Rattle.packed_lists.specs.Laws.Fronts.{take-front, drop-front}
 use Rattle.column_block.proofs.Presences.{length-presence, flags-are, spread-present, length-present, length-flags, no-ones}
 use Rattle.column_block.proofs.SixLists.{lists-are, first-again}

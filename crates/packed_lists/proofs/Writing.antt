@@ -1,7 +1,7 @@
 -- A list while it is written: whole blocks, and what is not packed yet.
 use Rattle.std.proofs.Common.{◌≡◌, ℕ, ℤ, ◌-◌, set, ◌+◌, ◌*◌, ◌≤◌, List, [], ◌∷◌, ◌++◌, length, take, drop, refl, sym, ◌∙◌, ap, subst, arith}
 use Rattle.std.specs.List.{concat}
-use Rattle.std.proofs.lemmas.List.{length-append, length-set, take_all, drop_all, take_more_set, take_rest, length-drop}
+use Rattle.std.proofs.lemmas.List.{append-nil, length-append, length-set, take_all, drop_all, take_more_set, take_rest, length-drop}
 use Rattle.std.proofs.Math.Seq.{take-add}
 use borrow.Rule.Slice.PartMut.{put_mid, post_of}
 use Rattle.std.proofs.lemmas.List.Folds.{concat-append}
@@ -10,7 +10,7 @@ use Rattle.packed_lists.specs.Nums.{AreBlocksOf}
 use Rattle.packed_lists.specs.Decoded.{AreBlocksAt, values_at}
 use Rattle.packed_lists.specs.Packing.{IsPacking, IsPacked}
 use Rattle.packed_lists.specs.Laws.Decodes.{values_at-is}
-use Rattle.packed_lists.specs.Laws.Placing.{append_nil, blocks-push, blocks-before, places-push, put-at}
+use Rattle.packed_lists.specs.Laws.Placing.{blocks-push, blocks-before, places-push, put-at}
 
 pub none-packed : (bytes places : List ℕ) → bytes ≡ [] → places ≡ [] → IsPacking bytes places 0 [] × (values_at bytes places ≡ [])
 none-packed bytes places e f =
@@ -34,7 +34,7 @@ grow bytes places filled done ws block h k few =
       blocks = h.blocks ++ block ∷ [];
       as_many = length-append h.blocks (block ∷ []) ∙ omega (arith, h.as_many, more);
       packed = blocks-push h.blocks done ws block h.packed (omega (arith, h.whole, h.as_many)) k few;
-      same = ap (λ z. z ++ block) h.same ∙ ap (λ z. concat h.blocks ++ z) (sym (append_nil block)) ∙ sym (concat-append h.blocks (block ∷ []));
+      same = ap (λ z. z ++ block) h.same ∙ ap (λ z. concat h.blocks ++ z) (sym (append-nil block)) ∙ sym (concat-append h.blocks (block ∷ []));
       long = more;
     }
 
@@ -67,7 +67,7 @@ last-set buffer filled v n e =
 pub last-mid : (buffer ys : List ℤ) (filled k : ℕ) → length buffer ≡ 128 → filled + length ys ≡ 128 → k ≡ length ys → put_mid filled k buffer ys ≡ take filled buffer ++ ys
 last-mid buffer ys filled k n e f =
     let post : post_of filled k buffer ≡ [] = drop_all k (drop filled buffer) (omega (arith, length-drop filled buffer)) in
-    ap (λ z. take filled buffer ++ (ys ++ z)) post ∙ ap (λ z. take filled buffer ++ z) (append_nil ys)
+    ap (λ z. take filled buffer ++ (ys ++ z)) post ∙ ap (λ z. take filled buffer ++ z) (append-nil ys)
 
 pub front-more : {A : Type 0} (vs : List A) (done n : ℕ) → take done vs ++ take n (take (length vs - done) (drop done vs)) ≡ take (done + n) vs
 front-more vs done n = ap (λ z. take done vs ++ take n z) (take_rest vs done) ∙ sym (take-add done n vs)

@@ -3,6 +3,7 @@ use Rattle.std.specs.Prelude.{◌≡◌, ℕ, ℤ, ◌*◌, ◌<◌, ◌≤◌, 
 use Rattle.std.specs.List.{flat_map, concat}
 use Rattle.packed_lists.specs.Nums.{IsNums, AreBlocksOf}
 use Rattle.packed_lists.specs.Decoded.{AreBlocksAt}
+use Rattle.packed_lists.specs.Lists.{items_before}
 use Rattle.packed_lists.specs.declared.cursor.Cache.{Cache}
 use Rattle.packed_lists.specs.declared.picks.Turn.{Turn}
 
@@ -59,3 +60,12 @@ pub record Lies (lists : List (List ℤ)) (t : Turn) : Type 0 where
 abbrev pub EachLies : List (List ℤ) → List Turn → Type 0
 EachLies lists [] = Unit {0}
 EachLies lists (t ∷ ts) = Lies lists t × EachLies lists ts
+
+-- no turn ends before it begins
+abbrev pub EachOrder : List Turn → Type 0
+EachOrder [] = Unit {0}
+EachOrder (t ∷ ts) = (t.from ≤ t.to) × EachOrder ts
+
+-- the turn of the items of the lists that a turn takes
+abbrev pub item_turn : {A : Type 0} → List (List (List A)) → Turn → Turn
+item_turn lists t = record { source = t.source; from = items_before (get_or lists t.source []) t.from; to = items_before (get_or lists t.source []) t.to }

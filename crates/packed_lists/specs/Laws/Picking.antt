@@ -1,16 +1,17 @@
 -- Lists that are made of parts of others.
 use Rattle.std.proofs.Common.{◌≡◌, ℕ, ℤ, ◌+◌, ◌-◌, ◌<◌, ◌≤◌, List, [], ◌∷◌, ◌++◌, length, take, drop, get_or, map, refl, sym, ◌∙◌, ap, arith}
-use Rattle.std.specs.List.{slice_range, flat_map}
+use Rattle.std.specs.List.{slice_range}
 use Rattle.std.proofs.Common.{suc, zero}
 use Rattle.std.proofs.lemmas.List.{append_assoc, append-nil, take_more, map-append, drop-map, take-map, length-append, take-append-drop}
+use Rattle.std.proofs.lemmas.List.Concat.{flat_map-append}
 use Rattle.std.proofs.Math.Seq.{take-add, take-append_seam, drop-append_seam}
 use Rattle.packed_lists.specs.declared.picks.Turn.{Turn}
-use Rattle.packed_lists.specs.Packing.{turn_of, picked, Lies, EachLies}
+use Rattle.packed_lists.specs.Lists.{joined, items_before}
+use Rattle.packed_lists.specs.Packing.{turn_of, picked, item_turn, Lies, EachLies, EachOrder}
 
 -- turns one after the other
 pub picked-append : {A : Type 0} (lists : List (List A)) (xs ys : List Turn) → picked lists (xs ++ ys) ≡ picked lists xs ++ picked lists ys
-picked-append lists [] ys = refl
-picked-append lists (t ∷ xs) ys = ap (λ z. turn_of lists t ++ z) (picked-append lists xs ys) ∙ sym (append_assoc (turn_of lists t) (picked lists xs) (picked lists ys))
+picked-append lists xs ys = flat_map-append (turn_of lists) xs ys
 
 pub lies-at : (lists : List (List ℤ)) (turns : List Turn) (k : ℕ) (d : Turn) → EachLies lists turns → k < length turns → Lies lists (get_or turns k d)
 lies-at lists [] k d h l = absurd (omega arith)
@@ -25,19 +26,6 @@ pub picked-more : {A : Type 0} (lists : List (List A)) (turns : List Turn) (k : 
 picked-more lists turns k d l =
     ap (picked lists) (take_more turns k d l) ∙ picked-append lists (take k turns) (get_or turns k d ∷ []) ∙ ap (λ z. picked lists (take k turns) ++ z) (picked-one lists (get_or turns k d))
 
--- within a list it doesn't matter what stands for what isn't there
-pub any-default : {A : Type 0} (xs : List A) (k : ℕ) (d e : A) → k < length xs → get_or xs k d ≡ get_or xs k e
-any-default [] k d e l = absurd (omega arith)
-any-default (x ∷ xs) zero d e l = refl
-any-default (x ∷ xs) (suc k) d e l = any-default xs k d e (omega arith)
-
-abbrev pub joined : {A : Type 0} → List (List A) → List A
-joined lists = flat_map (λ xs. xs) lists
-
-abbrev pub EachOrder : List Turn → Type 0
-EachOrder [] = Unit {0}
-EachOrder (t ∷ ts) = (t.from ≤ t.to) × EachOrder ts
-
 at-joined : {A : Type 0} (ls : List (List (List A))) (k : ℕ) → get_or (map joined ls) k [] ≡ joined (get_or ls k [])
 at-joined [] k = refl
 at-joined (l ∷ ls) zero = refl
@@ -48,7 +36,7 @@ at-map f [] k = refl
 at-map f (l ∷ ls) zero = refl
 at-map f (l ∷ ls) (suc k) = at-map f ls k
 
-range-map : {A B : Type 0} (f : A → B) (xs : List A) (a b : ℕ) → slice_range (map f xs) a b ≡ map f (slice_range xs a b)
+pub range-map : {A B : Type 0} (f : A → B) (xs : List A) (a b : ℕ) → slice_range (map f xs) a b ≡ map f (slice_range xs a b)
 range-map f xs a b = ap (take (b - a)) (drop-map f a xs) ∙ take-map f (b - a) (drop a xs)
 
 -- each number of a list changed
@@ -62,17 +50,8 @@ picked-map f lists (t ∷ ts) =
 
 -- ---- items of lists
 
--- how many items stand in the lists before a place
-abbrev pub items_before : {A : Type 0} → List (List A) → ℕ → ℕ
-items_before xs k = length (joined (take k xs))
-
--- the turn of the items
-abbrev pub item_turn : {A : Type 0} → List (List (List A)) → Turn → Turn
-item_turn lists t = record { source = t.source; from = items_before (get_or lists t.source []) t.from; to = items_before (get_or lists t.source []) t.to }
-
-joined-append : {A : Type 0} (xs ys : List (List A)) → joined (xs ++ ys) ≡ joined xs ++ joined ys
-joined-append [] ys = refl
-joined-append (x ∷ xs) ys = ap (λ z. x ++ z) (joined-append xs ys) ∙ sym (append_assoc x (joined xs) (joined ys))
+pub joined-append : {A : Type 0} (xs ys : List (List A)) → joined (xs ++ ys) ≡ joined xs ++ joined ys
+joined-append xs ys = flat_map-append (λ z. z) xs ys
 
 -- the items of some lists of a list are some items
 pub joined-range : {A : Type 0} (xs : List (List A)) (a b : ℕ) → a ≤ b → joined (slice_range xs a b) ≡ slice_range (joined xs) (items_before xs a) (items_before xs b)

@@ -4,15 +4,11 @@ use Rattle.std.proofs.Common.{suc, zero}
 use Rattle.std.specs.List.{slice_range}
 use Rattle.std.specs.Int.{div_ceil}
 use Rattle.std.proofs.Math.Seq.{take-add}
-use Rattle.std.proofs.lemmas.List.{append_assoc, take-append-le, drop-append-le, drop-drop, take_all, drop_all, length-drop, take_rest, drop-take, take-take}
+use Rattle.std.proofs.lemmas.List.{append_assoc, append-nil, take-append-le, drop-append-le, drop-drop, take_all, drop_all, length-drop, take_rest, drop-take, take-take}
 use Rattle.column_pack.specs.Block.{IsBlock}
 use Rattle.packed_lists.specs.Nums.{AreBlocksOf}
 use Rattle.packed_lists.specs.Decoded.{IsBlockAt, AreBlocksAt}
 use Rattle.packed_lists.specs.Laws.Fronts.{no-empty, drop-front}
-
-pub append_nil : {A : Type 0} (xs : List A) → xs ++ [] ≡ xs
-append_nil [] = refl
-append_nil (x ∷ xs) = ap (λ z. x ∷ z) (append_nil xs)
 
 -- one block more, behind whole ones
 pub blocks-push : (blocks : List (List ℕ)) (us ws : List ℤ) (block : List ℕ) → AreBlocksOf blocks us → length us ≡ 128 * length blocks → IsBlock ws block → length ws ≤ 128
@@ -48,7 +44,7 @@ places-push bytes (p ∷ ps) us ws at h n k few =
 
 -- a block that was put at the end
 pub put-at : (old block : List ℕ) (ws : List ℤ) → IsBlock ws block → IsBlockAt (old ++ block) (length old) ws
-put-at old block ws h = (old, block, [], h, ap (λ z. old ++ z) (sym (append_nil block)), refl)
+put-at old block ws h = (old, block, [], h, ap (λ z. old ++ z) (sym (append-nil block)), refl)
 
 -- the block at each place
 pub block-of : (bytes places : List ℕ) (vs : List ℤ) (k : ℕ) → AreBlocksAt bytes places vs → k < length places → IsBlockAt bytes (get_or places k 0) (take 128 (drop (128 * k) vs))

@@ -3,7 +3,7 @@ use Rattle.std.proofs.Common.{◌≡◌, ℕ, ℤ, ◌+◌, ◌-◌, ◌*◌, �
 use Rattle.std.specs.Prelude.{min}
 use Rattle.std.specs.List.{concat}
 use Rattle.std.proofs.lemmas.Bool.{cases_lt}
-use Rattle.std.proofs.lemmas.List.{append_assoc, length-append, length-take-le, length-take, length-drop, take-append-drop, drop-drop, take_all, take_rest}
+use Rattle.std.proofs.lemmas.List.{append_assoc, append-nil, length-append, length-take-le, length-take, length-drop, take-append-drop, drop-drop, take_all, take_rest}
 use Rattle.std.proofs.lemmas.List.Folds.{concat-append}
 use Rattle.std.proofs.Math.Seq.{take-add}
 use Rattle.column_pack.specs.Block.{IsBlock}
@@ -11,7 +11,7 @@ use Rattle.packed_lists.specs.Nums.{AreBlocksOf}
 use Rattle.packed_lists.specs.Decoded.{IsBlockAt, AreBlocksAt}
 use Rattle.packed_lists.specs.Found.{Begins, ArePut, AreFound}
 use Rattle.packed_lists.specs.Laws.Fronts.{same-front}
-use Rattle.packed_lists.specs.Laws.Placing.{append_nil, blocks-push, blocks-before, places-push, put-at}
+use Rattle.packed_lists.specs.Laws.Placing.{blocks-push, blocks-before, places-push, put-at}
 
 -- the numbers of a block: 128, or fewer where the list ends
 pub take-part : {A : Type 0} (vs : List A) (from to : ℕ) → from ≤ length vs → to ≡ min (length vs) (from + 128) → take (to - from) (drop from vs) ≡ take 128 (drop from vs)
@@ -23,7 +23,7 @@ take-part vs from to inside e = elim (cases_lt (length vs) (from + 128)) [
 ]
 
 concat-push : (blocks : List (List ℕ)) (block : List ℕ) → concat (blocks ++ block ∷ []) ≡ concat blocks ++ block
-concat-push blocks block = concat-append blocks (block ∷ []) ∙ ap (λ z. concat blocks ++ z) (append_nil block)
+concat-push blocks block = concat-append blocks (block ∷ []) ∙ ap (λ z. concat blocks ++ z) (append-nil block)
 
 pub put-more : (old now places : List ℕ) (done : ℕ) (vs ws : List ℤ) (block : List ℕ) → ArePut old now places done vs → 128 * done < length vs
     → ws ≡ take 128 (drop (128 * done) vs) → IsBlock ws block → ArePut old (now ++ block) (places ++ length now ∷ []) (done + 1) vs

@@ -3,6 +3,7 @@ use Rattle.std.proofs.Common.{◌≡◌, ℕ, ℤ, ◌+◌, ◌<◌, List, [], �
 use Rattle.std.proofs.lemmas.List.{append_assoc, append-nil, take_more}
 use Rattle.packed_lists.specs.Nums.{IsNums, AreNums}
 use Rattle.packed_lists.specs.Decoded.{AreBlocksAt, ArePlaced}
+use Rattle.packed_lists.specs.Lists.{AreAlike}
 use Rattle.packed_lists.specs.Laws.Fronts.{one-nums, same-nums}
 use Rattle.packed_lists.specs.Laws.Placing.{blocks-before}
 
@@ -26,13 +27,6 @@ placed-push bytes (q ∷ qs) (us ∷ lists) p vs h k = (h.0, placed-push bytes q
 pub one-each : (lists : List (List ℤ)) (a b : List ℕ) → AreNums lists a → AreNums lists b → a ≡ b
 one-each [] a b h k = h ∙ sym k
 one-each (vs ∷ lists) a b (n, r, g, h, e) (m, s, k, l, f) = e ∙ ap (λ z. z ++ r) (one-nums vs n m g k) ∙ ap (λ z. m ++ z) (one-each lists r s h l) ∙ sym f
-
--- two groups of lists are as long, list by list
-abbrev pub AreAlike : List (List ℤ) → List (List ℤ) → Type 0
-AreAlike [] [] = Unit {0}
-AreAlike [] (w ∷ ws) = ⊥
-AreAlike (v ∷ vs) [] = ⊥
-AreAlike (v ∷ vs) (w ∷ ws) = (length v ≡ length w) × AreAlike vs ws
 
 pub same-each : (lists more : List (List ℤ)) (a b x y : List ℕ) → AreAlike lists more → AreNums lists a → AreNums more b → a ++ x ≡ b ++ y → (lists ≡ more) × (a ≡ b) × (x ≡ y)
 same-each [] [] a b x y n h k e = (refl, h ∙ sym k, ap (λ z. z ++ x) (sym h) ∙ e ∙ ap (λ z. z ++ y) k)

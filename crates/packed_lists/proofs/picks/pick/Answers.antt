@@ -1,8 +1,8 @@
 use Rattle.std.proofs.Common.{◌≡◌, ◌∙◌, ◌<◌, ◌≤◌, ◌++◌, List, ℤ, [], ◌-◌, drop, get_or, set, length, take, sym, subst, ap, arith}
-use Rattle.std.proofs.lemmas.List.{set-get_or, append_assoc}
+use Rattle.std.proofs.lemmas.List.{get_or_default, set-get_or, append_assoc}
 use Rattle.packed_lists.specs.declared.picks.Turn.{Turn}
 use Rattle.packed_lists.specs.Packing.{picked, turn_of}
-use Rattle.packed_lists.specs.Laws.Picking.{lies-at, picked-more, any-default}
+use Rattle.packed_lists.specs.Laws.Picking.{lies-at, picked-more}
 use Rattle.packed_lists.proofs.picks.pick.Goals as goal
 
 abbrev none : Turn
@@ -24,7 +24,7 @@ copy-requires-clause-within c =
     let t = get_or c.args.turns.now c.loop-turn.turn-index none in
     let lies = lies-at c.args.lists.now c.args.turns.now c.loop-turn.turn-index none c.requires.turns c.loop-turn-test.true in
     let same = c.loop-turn.invariant.same in
-    let e : get_or c.loop-turn.lists t.source c.index-lists-turn.result ≡ get_or c.args.lists.now t.source [] = ap (λ (z : List (List ℤ)). get_or z t.source c.index-lists-turn.result) same ∙ any-default c.args.lists.now t.source c.index-lists-turn.result [] lies.source in
+    let e : get_or c.loop-turn.lists t.source c.index-lists-turn.result ≡ get_or c.args.lists.now t.source [] = ap (λ (z : List (List ℤ)). get_or z t.source c.index-lists-turn.result) same ∙ get_or_default c.args.lists.now t.source c.index-lists-turn.result [] lies.source in
     subst (λ (z : List ℤ). t.to ≤ length z) (sym e) lies.within
 
 pub loop-turn-preserved : goal.loop-turn-preserved
@@ -36,7 +36,7 @@ loop-turn-preserved c =
     let lies = lies-at lists turns k none c.requires.turns c.loop-turn-test.true in
     let same = c.loop-turn.invariant.same in
     let old = get_or c.loop-turn.lists t.source c.index-lists-turn.result in
-    let e : old ≡ get_or lists t.source [] = ap (λ (z : List (List ℤ)). get_or z t.source c.index-lists-turn.result) same ∙ any-default lists t.source c.index-lists-turn.result [] lies.source in
+    let e : old ≡ get_or lists t.source [] = ap (λ (z : List (List ℤ)). get_or z t.source c.index-lists-turn.result) same ∙ get_or_default lists t.source c.index-lists-turn.result [] lies.source in
     let kept : c.copy.new.self ≡ old = c.in_ok-copy.ensures.same in
     record {
       same = ap (set c.loop-turn.lists t.source) kept ∙ set-get_or c.loop-turn.lists t.source c.index-lists-turn.result ∙ same;

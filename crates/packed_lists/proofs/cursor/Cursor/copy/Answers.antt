@@ -1,9 +1,9 @@
 use Rattle.std.proofs.Common.{◌≡◌, ◌∙◌, ◌≤◌, ◌++◌, ◌/◌, sym, subst, arith, ap}
 use Rattle.std.specs.Prelude.{slice_range}
-use Rattle.std.proofs.lemmas.List.{append_assoc}
+use Rattle.std.proofs.lemmas.List.{append_assoc, append-nil}
 use Rattle.packed_lists.specs.Packing.{IsReadBy}
 use Rattle.packed_lists.specs.Laws.Decodes.{values_at-is}
-use Rattle.packed_lists.specs.Laws.Placing.{range-on, range-none, append_nil}
+use Rattle.packed_lists.specs.Laws.Placing.{range-on, range-none}
 use Rattle.packed_lists.proofs.Loading.{block-there, loaded-part, loaded-cached}
 use Rattle.packed_lists.proofs.cursor.Cursor.copy.Goals as goal
 
@@ -12,7 +12,7 @@ loop-at-init c = record {
   order = omega arith;
   within = c.requires.order;
   read = subst (IsReadBy c.self.inside.bytes.now c.self.inside.places.now c.self.inside.len c.self.inside.cache) c.self.view_is c.self.invariant;
-  numbers = sym (append_nil c.args.into.now) ∙ ap (λ z. c.args.into.now ++ z) (sym (range-none c.args.self.now c.args.from));
+  numbers = sym (append-nil c.args.into.now) ∙ ap (λ z. c.args.into.now ++ z) (sym (range-none c.args.self.now c.args.from));
 }
 
 pub load-requires-clause-list : goal.load-requires-clause-list

@@ -1,9 +1,8 @@
 use Rattle.std.proofs.Common.{◌≡◌, ◌∙◌, ◌+◌, ◌-◌, ap, ◌++◌, take, length, sym, arith}
-use Rattle.std.proofs.lemmas.List.{append_assoc, length-append, length-take-le}
+use Rattle.std.proofs.lemmas.List.{append_assoc, append-nil, length-append, length-take-le}
 use Rattle.std.proofs.lemmas.Slice.{take-put_mid}
 use borrow.Rule.Slice.PartMut.{put_mid}
 use Rattle.packed_lists.specs.Decoded.{values_at}
-use Rattle.packed_lists.specs.Laws.Placing.{append_nil}
 use Rattle.packed_lists.proofs.Writing.{whole-put, last-mid}
 use Rattle.packed_lists.proofs.packer.Packer.extend_within.Goals as goal
 
@@ -48,7 +47,7 @@ returns-clause-numbers c =
     let mid : put_mid i.filled (i.filled + n - i.filled) i.buffer c.copy_from_slice.new.self ≡ take i.filled i.buffer ++ c.copy_from_slice.new.self = last-mid i.buffer c.copy_from_slice.new.self i.filled (i.filled + n - i.filled) c.self.told (omega (arith, m, full)) (omega (arith, m)) in
     let long : length (take i.filled i.buffer ++ c.copy_from_slice.new.self) ≡ 128 = length-append (take i.filled i.buffer) c.copy_from_slice.new.self ∙ omega (arith, m, full, length-take-le i.filled i.buffer (omega (arith, c.self.told, full))) in
     let (block, k, e) = c.in_ok-put_block.ensures.block in
-    append_nil _
+    append-nil _
     ∙ (whole-put i.bytes.items i.places.items _ _ i.filled _ block c.self.invariant k (ap (λ z. length z) mid ∙ long) e c.in_ok-put_block.ensures.place).1
     ∙ ap (λ z. done ++ z) mid
     ∙ ap (λ z. done ++ (take i.filled i.buffer ++ z)) copied
