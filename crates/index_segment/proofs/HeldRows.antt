@@ -16,7 +16,8 @@ use Rattle.row_cells.specs.Dimensions as dimension
 use Rattle.row_cells.specs.Dimensions.{key_bytes, AreDimensionsAfter}
 use Rattle.row_cells.specs.Fitting.{CellFits, CellsFit, FieldsAscendAfter, dimensions_of, with_dimension}
 use Rattle.row_cells.specs.Mapped.{IsMapped}
-use Rattle.row_cells.specs.KeyedLaws.{AreSpellable, IsSpellable, cells_spellable, dimensions_ascend}
+use Rattle.row_cells.specs.KeyedLaws.{cells_spellable, dimensions_ascend}
+use Rattle.row_cells.specs.Spellable.{AreSpellable, IsSpellable}
 use Rattle.index_segment.specs.Columns.{columns_of}
 use Rattle.index_segment.specs.Directory.{Run, run_of, with_key, runs_of, row_keys, keys_of, sizes_of, spread}
 use Rattle.index_segment.specs.declared.forms.Form.{Form}

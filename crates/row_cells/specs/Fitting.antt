@@ -165,6 +165,10 @@ pub record Fits (schema : Schema) (row : Row) : Type 0 where
 abbrev pub folded_form : Schema → Schema
 folded_form schema = record schema { folded = true }
 
+-- the schema of single documents
+abbrev pub raw_form : Schema → Schema
+raw_form schema = record schema { folded = false }
+
 -- a row fits the schema as it is, or as a fold
 abbrev pub FitsEither : Schema → Row → Type 0
 FitsEither schema row = Fits schema row ⊎ Fits (folded_form schema) row

@@ -19,11 +19,12 @@ use Rattle.row_cells.specs.declared.rows.Cell.{Cell}
 use Rattle.row_cells.specs.declared.rows.Cell.TheVariants.{Absent, One, Many, Gauge, Rise as RiseCell}
 use Rattle.row_cells.specs.declared.rows.Row.{Row}
 use Rattle.row_cells.specs.Dimensions.{Dimension, IsDimension, IsKeyValue, IsKey, AreDimensions, AreDimensionsAfter, text_bytes, above_least, value_bytes, dimension_bytes, key_bytes}
-use Rattle.row_cells.specs.Fitting.{CellFits, CellsFit, Fits, FieldsAscendAfter, with_dimension, dimensions_of}
-use Rattle.row_cells.specs.Heads.{utf8_word, word_at, whole_at, value_at, value_if, entry_at, head_of, rest_of, heads_in, head_row_of, dimension_at, dimension_with, in_front_of, first_dimensions, dimensions_in}
-use Rattle.row_cells.specs.KeyedLaws.{AreSpellable, IsSpellable, cells_spellable, dimensions_ascend}
+use Rattle.row_cells.specs.Fitting.{CellFits, CellsFit, Fits, FieldsAscendAfter, raw_form, with_dimension, dimensions_of}
+use Rattle.row_cells.specs.Heads.{utf8_word, word_at, whole_at, value_at, value_if, entry_at, head_of, rest_of, heads_in, head_row_of, IsHeadOf, dimension_at, dimension_with, in_front_of, first_dimensions, dimensions_in}
+use Rattle.row_cells.specs.KeyedLaws.{cells_spellable, dimensions_ascend}
 use Rattle.row_cells.specs.KeyLaws.{above_least_is, above_least_short}
 use Rattle.row_cells.specs.Mapped.{IsMapped}
+use Rattle.row_cells.specs.Spellable.{AreSpellable, IsSpellable}
 use Rattle.row_cells.specs.Texts.{cut, text_at}
 use Rattle.row_cells.specs.WidenLaws.{same_bytes, other_bytes, apart, absent_fits}
 
@@ -228,7 +229,7 @@ head_dimensions (f ∷ fs) [] = refl
 head_dimensions (f ∷ fs) (c ∷ cs) = head_dimension f.role f.path c (dimensions_of fs (head_cells fs cs)) ∙ ap (with_dimension f.role f.path c) (head_dimensions fs cs)
 
 -- the row with the head of a row's key fits as a document, whatever the row's form
-pub head_row_fits : (schema : Schema) (row : Row) → IsMapped schema → Fits schema row → Fits (record schema { folded = false }) (head_row_of schema row.key)
+pub head_row_fits : (schema : Schema) (row : Row) → IsMapped schema → Fits schema row → Fits (raw_form schema) (head_row_of schema row.key)
 head_row_fits schema row mapped fits =
     let cells = heads_are schema row mapped fits in
     record {
@@ -239,3 +240,12 @@ head_row_fits schema row mapped fits =
       count_within = omega arith;
       alone = λ raw. refl;
     }
+
+pub head_row_is : (schema : Schema) (row : Row) → IsMapped schema → Fits schema row → IsHeadOf schema row (head_row_of schema row.key)
+head_row_is schema row mapped fits = record {
+  fits = head_row_fits schema row mapped fits;
+  dimensions = ap (dimensions_of schema.fields) (heads_are schema row mapped fits) ∙ head_dimensions schema.fields row.cells;
+}
+
+pub head_row_from : (schema : Schema) (row head : Row) (key : List ℕ) → IsMapped schema → Fits schema row → row.key ≡ key → head ≡ head_row_of schema key → IsHeadOf schema row head
+head_row_from schema row head key mapped fits same is = subst (λ h. IsHeadOf schema row h) (ap (head_row_of schema) same ∙ sym is) (head_row_is schema row mapped fits)

@@ -1,5 +1,5 @@
 -- The dimensions that a key spells, and the head of a series: the cells of its dimensions, and nothing else.
-use Rattle.std.specs.Prelude.{zero, suc, length, ℕ, pos, ◌-ℤ◌, ◌^◌, Bool, true, false, nat_eq, if◌then◌else◌, Option, Some, None, List, [], ◌∷◌}
+use Rattle.std.specs.Prelude.{◌≡◌, zero, suc, length, ℕ, pos, ◌-ℤ◌, ◌^◌, Bool, true, false, nat_eq, if◌then◌else◌, Option, Some, None, List, [], ◌∷◌}
 use Rattle.std.specs.Int.{w64, from_be_bytes}
 use Rattle.std.specs.Str.{bytes_eq, is_utf8}
 use Rattle.time_text.specs.Shape.{◌>>=◌}
@@ -14,6 +14,7 @@ use Rattle.row_cells.specs.declared.rows.Row.{Row}
 use Rattle.row_cells.specs.Dimensions.{Dimension}
 use Rattle.row_cells.specs.declared.rows.Cell.{Cell}
 use Rattle.row_cells.specs.declared.rows.Cell.TheVariants.{Absent, One}
+use Rattle.row_cells.specs.Fitting.{Fits, raw_form, dimensions_of}
 use Rattle.row_cells.specs.Texts.{cut, text_at}
 
 abbrev pub utf8_word : List ℕ × List ℕ → Option (Scalar × List ℕ)
@@ -82,6 +83,11 @@ heads_in (f ∷ fields) bytes = head_of (entry_at f.path bytes) ∷ heads_in fie
 -- one row with the head of a series: a document at the first instant
 abbrev pub head_row_of : Schema → List ℕ → Row
 head_row_of schema key = record { key = key; time = pos 0; count = 1; cells = heads_in schema.fields key }
+
+-- a row is the head of another's series: it fits as a document, and has that row's dimensions
+pub record IsHeadOf (schema : Schema) (row head : Row) : Type 0 where
+  pub fits : Fits (raw_form schema) head
+  pub dimensions : dimensions_of schema.fields head.cells ≡ dimensions_of schema.fields row.cells
 
 abbrev pub in_front_of : Option (Dimension × List ℕ) → (List ℕ → List Dimension) → List Dimension
 in_front_of None behind = []

@@ -19,6 +19,7 @@ use Rattle.row_cells.specs.Fitting.{CellFits, CellsFit, FieldsAscendAfter, IsNum
 use Rattle.row_cells.specs.Limits.{longest_key}
 use Rattle.row_cells.specs.JoinLaws.{ascend_lower}
 use Rattle.row_cells.specs.KeyLaws.{key_bytes_injective}
+use Rattle.row_cells.specs.Spellable.{IsSpellable, AreSpellable}
 use Rattle.row_cells.specs.Mapped.{IsPath, ArePaths, IsDimensionAt, AreDimensionsAt, IsMapped, AreCellsOf, is_present, any_present, is_routed, series_bytes}
 
 -- a value of a type is one that a key can spell
@@ -55,16 +56,6 @@ value_fits Short (Word t) is = absurd is
 value_fits Byte (Whole v) is = number_fits Byte v is
 value_fits Byte (Flag b) is = tt
 value_fits Byte (Word t) is = absurd is
-
--- a cell that can be spelled beside a field, and likewise cells
-abbrev pub IsSpellable : Role → List ℕ → Cell → Type 0
-IsSpellable DimensionRole path (One v) = IsPath path × IsKeyValue v
-IsSpellable role path cell = Unit {0}
-
-abbrev pub AreSpellable : List Field → List Cell → Type 0
-AreSpellable [] [] = Unit {0}
-AreSpellable (f ∷ fs) (c ∷ cs) = IsSpellable f.role f.path c × AreSpellable fs cs
-AreSpellable fs cs = ⊥
 
 spellable : (folded rises : Bool) (kind : FieldType) (role : Role) (path : List ℕ) (documents : ℕ) (cell : Cell) → IsPath path → CellFits folded rises kind role documents cell → IsSpellable role path cell
 spellable folded rises kind DimensionRole path documents Absent is fits = tt

@@ -23,6 +23,7 @@ pub mod RangeLaws
 pub mod Reach
 pub mod RowLists
 pub mod SetLaws
+pub mod Spellable
 pub mod Texts
 pub mod WidenFoldLaws
 pub mod WidenLaws

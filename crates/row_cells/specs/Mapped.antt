@@ -1,6 +1,7 @@
 -- Schemas as templates give them, and which cells make a key.
 use Rattle.std.specs.Prelude.{◌≡◌, ℕ, zero, suc, ◌<◌, ◌≤◌, ◌||◌, Bool, true, false, List, [], ◌∷◌, length, Option, Some, None, IsUtf8}
 use Rattle.std.specs.List.{slice_get}
+use Rattle.row_cells.specs.declared.schemas.Role.{Role}
 use Rattle.row_cells.specs.declared.schemas.Role.TheVariants.{Dimension}
 use Rattle.row_cells.specs.declared.schemas.Field.{Field}
 use Rattle.row_cells.specs.declared.schemas.Schema.{Schema}
@@ -20,11 +21,14 @@ abbrev pub ArePaths : List Field → Type 0
 ArePaths [] = Unit {0}
 ArePaths (f ∷ fs) = IsPath f.path × ArePaths fs
 
--- the field at a place is a dimension
+-- the field at a place has this role
+abbrev pub IsRoleAt : Role → List Field → ℕ → Type 0
+IsRoleAt role [] place = ⊥
+IsRoleAt role (f ∷ fs) zero = f.role ≡ role
+IsRoleAt role (f ∷ fs) (suc place) = IsRoleAt role fs place
+
 abbrev pub IsDimensionAt : List Field → ℕ → Type 0
-IsDimensionAt [] place = ⊥
-IsDimensionAt (f ∷ fs) zero = f.role ≡ Dimension
-IsDimensionAt (f ∷ fs) (suc place) = IsDimensionAt fs place
+IsDimensionAt fields place = IsRoleAt Dimension fields place
 
 abbrev pub AreDimensionsAt : List Field → List ℕ → Type 0
 AreDimensionsAt fields [] = Unit {0}

@@ -1,8 +1,12 @@
 -- Rows of an index that stand together or pass a test are rows of an index, and the first row of a series is its latest.
-use Rattle.std.specs.Prelude.{◌≡◌, ℕ, zero, suc, ◌≤ℤ◌, ◌+◌, ◌-◌, ◌≤◌, Bool, true, false, cond, List, [], ◌∷◌, take, drop, slice_range, filter}
+use Rattle.std.specs.Prelude.{◌≡◌, ℕ, zero, suc, ◌<ℤ◌, ◌+◌, ◌-◌, ◌≤◌, Bool, true, false, cond, List, [], ◌∷◌, take, drop, slice_range, filter}
 use Rattle.std.specs.Str.{bytes_eq}
-use Rattle.std.specs.declared.cmp.Ordering.TheVariants.{Less}
-use Rattle.std.proofs.Common.{inl, inr, refl, sym, subst, ◌∙◌, arith}
+use Rattle.std.specs.Cmp.{tied_itself}
+use Rattle.std.specs.Cmp.Lexicographic.{slice_cmp, nat_list_cmp_total}
+use Rattle.std.specs.Ordering.{int_cmp, nat_cmp, ordering_then}
+use Rattle.std.specs.declared.cmp.Ordering.TheVariants.{Less, Equal}
+use Rattle.std.proofs.Common.{refl, ap, sym, subst, ◌∙◌, arith}
+use Rattle.std.proofs.lemmas.Cmp.{int_ranked}
 use Rattle.std.proofs.lemmas.Slice.Eq.{bytes_eq-Decides}
 use Rattle.row_cells.specs.declared.schemas.Schema.{Schema}
 use Rattle.row_cells.specs.declared.rows.Row.{Row}
@@ -10,9 +14,7 @@ use Rattle.row_cells.specs.Each.{Each}
 use Rattle.row_cells.specs.EachLaws.{Each-both, Each-filter}
 use Rattle.row_cells.specs.KeyedRows.{IsRowOf, AreRowsOf}
 use Rattle.row_cells.specs.Order.{row_cmp}
-use Rattle.row_cells.specs.OrderLaws.{upto_cases, upto_of_le}
 use Rattle.row_cells.specs.RowLists.{AreInRowOrder, documents}
-use Rattle.row_cells.specs.WidenLaws.{apart}
 
 -- ---- a range
 
@@ -89,17 +91,17 @@ module _ (test : Row → Bool) where
 
 -- ---- the latest row
 
-pub not_later : (a b : Row) → row_cmp a b ≡ Less → a.key ≡ b.key → b.time ≤ℤ a.time
-not_later a b less same =
-    elim (upto_cases a b (upto_of_le a b Less less refl)) [
-      | inl before ↦ absurd (apart a.key b.key before same)
-      | inr both ↦ both.1
-    ]
+-- of two rows of one series in row order the first is the later one
+pub earlier_behind : (a b : Row) → row_cmp a b ≡ Less → a.key ≡ b.key → b.time <ℤ a.time
+earlier_behind a b less same =
+    let tied : slice_cmp nat_cmp a.key b.key ≡ Equal = ap (λ k. slice_cmp nat_cmp a.key k) (sym same) ∙ tied_itself nat_list_cmp_total a.key in
+    let by_time : Less ≡ int_cmp b.time a.time = sym less ∙ ap (λ o. ordering_then o (int_cmp b.time a.time)) tied in
+    int_ranked b.time a.time Less by_time
 
--- no row of a series is later than its first one
-pub latest_first : (key : List ℕ) (rows : List Row) (row : Row) (rest : List Row) → AreInRowOrder rows → filter (λ r. bytes_eq r.key key) rows ≡ row ∷ rest → Each (λ r. r.time ≤ℤ row.time) rest
+-- all rows of a series behind its first one are earlier
+pub latest_first : (key : List ℕ) (rows : List Row) (row : Row) (rest : List Row) → AreInRowOrder rows → filter (λ r. bytes_eq r.key key) rows ≡ row ∷ rest → Each (λ r. r.time <ℤ row.time) rest
 latest_first key rows row rest are is =
     let sorted : AreInRowOrder (row ∷ rest) = subst (λ rs. AreInRowOrder rs) is (in_order-filter (λ r. bytes_eq r.key key) rows are) in
     let same : Each (λ r. bytes_eq r.key key ≡ true) (row ∷ rest) = subst (λ rs. Each (λ r. bytes_eq r.key key ≡ true) rs) is (passing (λ r. bytes_eq r.key key) rows) in
     let key_is : row.key ≡ key = (bytes_eq-Decides row.key key).0 same.0 in
-    Each-both (λ r. row_cmp row r ≡ Less) (λ r. bytes_eq r.key key ≡ true) (λ r. r.time ≤ℤ row.time) (λ r less there. not_later row r less (key_is ∙ sym ((bytes_eq-Decides r.key key).0 there))) rest sorted.0 same.1
+    Each-both (λ r. row_cmp row r ≡ Less) (λ r. bytes_eq r.key key ≡ true) (λ r. r.time <ℤ row.time) (λ r less there. earlier_behind row r less (key_is ∙ sym ((bytes_eq-Decides r.key key).0 there))) rest sorted.0 same.1

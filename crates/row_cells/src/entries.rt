@@ -122,7 +122,8 @@ pub fn read_entry(bytes: &[u8]) -> Option<Entry<'_>>
         (bytes.now ≡ dimension_bytes (dimension_seen entry) ++ entry.rest.now)) }
     ensures reads { (d : Dimension) (rest : List ℕ) → IsDimension d → bytes.now ≡ dimension_bytes d ++ rest →
         IsSomeAnd result (λ entry.
-        (entry.path.now ≡ d.path) × (entry.bytes.now ≡ dimension_bytes d) × (entry.rest.now ≡ rest)) }
+        (entry.path.now ≡ d.path) × (entry.bytes.now ≡ dimension_bytes d) × (entry.rest.now ≡ rest)
+        × (scalar_of entry.value ≡ d.value)) }
     ensures shorter { IfSome result (λ entry. length entry.rest.now < length bytes.now) }
 {
     let path = read_text(bytes)?;

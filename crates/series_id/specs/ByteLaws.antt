@@ -8,10 +8,7 @@ use borrow.Author.Tests.{ltb-true}
 use Rattle.row_cells.specs.declared.scalars.Scalar.{Scalar}
 use Rattle.row_cells.specs.declared.scalars.Scalar.TheVariants.{Whole, Flag, Word}
 use Rattle.row_cells.specs.Dimensions.{Dimension, text_bytes, above_least, flag_byte, value_bytes, dimension_bytes, key_bytes, IsKeyValue, IsKey, AreDimensionsAfter}
-
-abbrev pub AreBytes : List ℕ → Type 0
-AreBytes [] = Unit {0}
-AreBytes (b ∷ bs) = (b < 256) × AreBytes bs
+use Rattle.series_id.specs.Ids.{AreBytes}
 
 pub bytes_joined : (a b : List ℕ) → AreBytes a → AreBytes b → AreBytes (a ++ b)
 bytes_joined [] b p q = q

@@ -12,8 +12,8 @@ use Rattle.base64.proofs.EngineFacts.{decode_of-encode_of}
 use Rattle.row_cells.specs.Dimensions.{IsKey}
 use Rattle.time_text.specs.Instant.{IsInstant}
 use Rattle.row_cells.specs.KeyLaws.{same_front, same_back}
-use Rattle.series_id.specs.ByteLaws.{AreBytes, bytes_at, bytes_joined, eight_bytes, key_is_bytes}
-use Rattle.series_id.specs.Ids.{base64url, id_bytes, id_of}
+use Rattle.series_id.specs.ByteLaws.{bytes_at, bytes_joined, eight_bytes, key_is_bytes}
+use Rattle.series_id.specs.Ids.{AreBytes, SameDocument, base64url, id_bytes, id_of}
 
 -- what is read is one list of bytes, and no error
 pub same_bytes : {E : Type 0} (r : Result (List ℕ) E) (a b : List ℕ) → r ≡ Ok a → r ≡ Ok b → a ≡ b
@@ -28,10 +28,6 @@ base64url_injective a b is_a is_b same =
     let back_a = decode_of-encode_of url_safe_no_pad a refl (bytes_at a is_a) in
     let back_b = decode_of-encode_of url_safe_no_pad b refl (bytes_at b is_b) in
     same_bytes (decode_of url_safe_no_pad (base64url b)) a b (ap (decode_of url_safe_no_pad) (sym same) ∙ back_a) back_b
-
-pub record SameDocument (k l : List ℕ) (t u : ℤ) : Type 0 where
-  pub key : k ≡ l
-  pub time : t ≡ u
 
 natural : (t : ℤ) → IsInstant t → pos (unsigned_abs t) ≡ t
 natural (pos n) is = refl

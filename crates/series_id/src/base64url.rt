@@ -1,7 +1,6 @@
 //! Base64 with the alphabet for URLs and without padding, as in RFC 4648.
 ghost use Rattle.std.specs.Prelude.{◌≡◌, ℕ, List, IfOk, IfSome, IsSomeAnd};
-ghost use Rattle.series_id.specs.ByteLaws.{AreBytes};
-ghost use Rattle.series_id.specs.Ids.{base64url};
+ghost use Rattle.series_id.specs.Ids.{AreBytes, base64url};
 
 use base64::DecodeAllocError;
 use base64::engine::general_purpose::URL_SAFE_NO_PAD;

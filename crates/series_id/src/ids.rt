@@ -2,8 +2,7 @@
 ghost use Rattle.std.specs.Prelude.{◌≡◌, ℕ, ℤ, List, IfOk, IfSome, IsNone, IsSomeAnd};
 ghost use Rattle.row_cells.specs.Dimensions.{IsKey};
 ghost use Rattle.time_text.specs.Instant.{IsInstant};
-ghost use Rattle.series_id.specs.Ids.{id_bytes, id_of};
-ghost use Rattle.series_id.specs.IdLaws.{SameDocument};
+ghost use Rattle.series_id.specs.Ids.{SameDocument, id_bytes, id_of};
 
 use crate::base64url;
 use edge_face::{LAST_INSTANT, NoMemory, Text};

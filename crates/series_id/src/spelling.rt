@@ -3,7 +3,7 @@ ghost use Rattle.std.specs.Prelude.{◌≡◌, ◌++◌, ◌<◌, ◌^◌, [], I
 ghost use Rattle.row_cells.specs.Dimensions as spec;
 ghost use Rattle.row_cells.specs.Dimensions.{IsKeyValue, key_bytes, text_bytes, value_bytes};
 ghost use Rattle.row_cells.specs.Fitting.{dimensions_of, with_dimension};
-ghost use Rattle.row_cells.specs.KeyedLaws.{AreSpellable, IsSpellable};
+ghost use Rattle.row_cells.specs.Spellable.{AreSpellable, IsSpellable};
 
 use edge_face::NoMemory;
 use row_cells::{Cell, Field, Role, Scalar};

@@ -1,15 +1,16 @@
 -- Steps of the walk over the entries of a key.
 use Rattle.std.specs.Prelude.{◌≡◌, ℕ, ◌<◌, true, false, Option, Some, None, IsNone, IsSomeAnd, List, [], ◌∷◌, ◌++◌, length}
 use Rattle.std.proofs.Common.{ap, ◌∙◌, sym, subst, arith}
+use Rattle.row_cells.specs.declared.scalars.Scalar.{Scalar}
 use Rattle.row_cells.specs.Dimensions.{Dimension, IsDimension, dimension_bytes, key_bytes, AreDimensionsAfter}
-use Rattle.shard_route.specs.Routing.{fnv_from, is_among, routing_hash, routing_part}
-use Rattle.shard_route.specs.RoutingLaws.{Looked, Walked, walk_kept, walk_passed}
+use Rattle.shard_route.specs.Routing.{Looked, fnv_from, is_among, routing_hash, routing_part}
+use Rattle.shard_route.specs.RoutingLaws.{Walked, walk_kept, walk_passed}
 
 -- how an entry is read that a dimension spells
-abbrev pub ReadsAs : List ℕ → List ℕ → List ℕ → List ℕ → Type 0
-ReadsAs rest path entry left = (d : Dimension) (after : List ℕ) → IsDimension d → rest ≡ dimension_bytes d ++ after → (path ≡ d.path) × (entry ≡ dimension_bytes d) × (left ≡ after)
+abbrev pub ReadsAs : List ℕ → List ℕ → List ℕ → List ℕ → Scalar → Type 0
+ReadsAs rest path entry left value = (d : Dimension) (after : List ℕ) → IsDimension d → rest ≡ dimension_bytes d ++ after → (path ≡ d.path) × (entry ≡ dimension_bytes d) × (left ≡ after) × (value ≡ d.value)
 
-module _ (left left' all : List (List ℕ)) (hash hash' : ℕ) (rest path entry after : List ℕ) (ds : List Dimension) (reads : ReadsAs rest path entry after) (shorter : length after < length rest) (looked : Looked path left' left) where
+module _ (left left' all : List (List ℕ)) (hash hash' : ℕ) (rest path entry after : List ℕ) (value : Scalar) (ds : List Dimension) (reads : ReadsAs rest path entry after value) (shorter : length after < length rest) (looked : Looked path left' left) where
   pub walk_on_kept : is_among path left ≡ true → hash' ≡ fnv_from hash entry → Walked left all hash rest ds → Walked left' all hash' after ds
   walk_on_kept is hash_is walked = go walked.dimensions walked.ascending walked.spelled walked.hashed
     where

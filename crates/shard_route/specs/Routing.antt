@@ -1,5 +1,5 @@
 -- The shard that a series goes to.
-use Rattle.std.specs.Prelude.{ℕ, ◌*◌, ◌%◌, ◌^◌, ◌||◌, Bool, true, false, List, [], ◌∷◌, Option, Some, None, bit_xor}
+use Rattle.std.specs.Prelude.{◌≡◌, ℕ, ◌*◌, ◌%◌, ◌^◌, ◌||◌, Bool, true, false, List, [], ◌∷◌, Option, Some, None, bit_xor}
 use Rattle.std.specs.List.{slice_get}
 use Rattle.std.specs.Cmp.Lexicographic.{slice_cmp}
 use Rattle.std.specs.Ordering.{nat_cmp}
@@ -7,7 +7,7 @@ use Rattle.std.specs.declared.cmp.Ordering.{Ordering}
 use Rattle.std.specs.declared.cmp.Ordering.TheVariants.{Less, Equal, Greater}
 use Rattle.row_cells.specs.declared.schemas.Field.{Field}
 use Rattle.row_cells.specs.declared.schemas.Schema.{Schema}
-use Rattle.row_cells.specs.Dimensions.{Dimension, key_bytes}
+use Rattle.row_cells.specs.Dimensions.{Dimension, IsBefore, key_bytes}
 use Rattle.row_cells.specs.Heads.{dimensions_in}
 
 abbrev pub path_of : Option Field → List ℕ
@@ -28,6 +28,20 @@ is_equal Greater = false
 abbrev pub is_among : List ℕ → List (List ℕ) → Bool
 is_among path [] = false
 is_among path (p ∷ ps) = is_equal (slice_cmp nat_cmp p path) || is_among path ps
+
+-- paths that ascend strictly, all of them after the path `below`
+abbrev pub AscendAfter : List ℕ → List (List ℕ) → Type 0
+AscendAfter below [] = Unit {0}
+AscendAfter below (p ∷ ps) = IsBefore below p × AscendAfter p ps
+
+-- paths that ascend strictly
+abbrev pub Ascend : List (List ℕ) → Type 0
+Ascend paths = AscendAfter [] paths
+
+-- what a look for a path leaves: of the later paths the same are left
+pub record Looked (path : List ℕ) (left all : List (List ℕ)) : Type 0 where
+  pub ascend : Ascend left
+  pub later : (q : List ℕ) → IsBefore path q → is_among q left ≡ is_among q all
 
 abbrev pub kept : Bool → Dimension → List Dimension → List Dimension
 kept true d ds = d ∷ ds

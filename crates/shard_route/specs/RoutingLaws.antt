@@ -10,17 +10,8 @@ use Rattle.row_cells.specs.declared.schemas.Field.{Field}
 use Rattle.row_cells.specs.Dimensions.{Dimension, dimension_bytes, key_bytes, IsBefore, AreDimensions, AreDimensionsAfter}
 use Rattle.row_cells.specs.Fitting.{FieldsAscend, FieldsAscendAfter}
 use Rattle.row_cells.specs.JoinLaws.{before_chain, after_is, before_of_after}
-use Rattle.shard_route.specs.Routing.{path_of, routing_paths, is_equal, is_among, kept, routing_part, fnv_from, routing_hash}
+use Rattle.shard_route.specs.Routing.{AscendAfter, Ascend, Looked, path_of, routing_paths, is_equal, is_among, kept, routing_part, fnv_from, routing_hash}
 use Rattle.row_cells.specs.Mapped.{PlacesAscendFrom, PlacesAscend}
-
--- paths that ascend strictly, all of them after the path `below`
-abbrev pub AscendAfter : List ℕ → List (List ℕ) → Type 0
-AscendAfter below [] = Unit {0}
-AscendAfter below (p ∷ ps) = IsBefore below p × AscendAfter p ps
-
--- paths that ascend strictly
-abbrev pub Ascend : List (List ℕ) → Type 0
-Ascend paths = AscendAfter [] paths
 
 pub lower : (p q : List ℕ) (ps : List (List ℕ)) → IsBefore p q → AscendAfter q ps → AscendAfter p ps
 lower p q [] before ascend = tt
@@ -55,11 +46,6 @@ none_after path below (p ∷ ps) before ascend =
     ap (λ o. is_equal o || is_among path ps) (after_is path p later) ∙ none_after path p ps later ascend.1
 
 -- ---- the first of the paths that are left, against the path looked for
-
--- what a look for a path leaves
-pub record Looked (path : List ℕ) (left all : List (List ℕ)) : Type 0 where
-  pub ascend : Ascend left
-  pub later : (q : List ℕ) → IsBefore path q → is_among q left ≡ is_among q all
 
 drop_first : (p q : List ℕ) (ps : List (List ℕ)) → IsBefore p q → is_among q ps ≡ is_among q (p ∷ ps)
 drop_first p q ps before = sym (ap (λ o. is_equal o || is_among q ps) before)

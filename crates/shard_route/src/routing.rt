@@ -3,8 +3,7 @@ ghost use Rattle.std.specs.Prelude.{◌≡◌, List};
 ghost use Rattle.std.specs.List.{slice_get};
 ghost use Rattle.row_cells.specs.Dimensions.{AreDimensions, Dimension, key_bytes};
 ghost use Rattle.shard_route.specs.Routing as spec;
-ghost use Rattle.shard_route.specs.Routing.{is_among, routing_paths};
-ghost use Rattle.shard_route.specs.RoutingLaws.{Ascend, Looked};
+ghost use Rattle.shard_route.specs.Routing.{Ascend, Looked, is_among, routing_paths};
 
 use crate::hashing::{OFFSET_BASIS, hash_on};
 use edge_face::bytes_order;

@@ -24,7 +24,7 @@ returns-clause-reads c =
     let both = some_is (sym is ∙ (ap dimension_at same ∙ dimension_read d rest is_d)) in
     let left = ap (λ p. p.1) both in
     let cut = entry_cut c.args.bytes.now (dimension_bytes d) rest found.rest.now same left in
-    (ap (λ p. p.0.path) both, c.split_at.ensures.front ∙ cut.0, left)
+    (ap (λ p. p.0.path) both, c.split_at.ensures.front ∙ cut.0, left, ap (λ p. p.0.value) both)
 
 pub returns-in_err-found-clause-reads : goal.returns-in_err-found-clause-reads
 returns-in_err-found-clause-reads c =

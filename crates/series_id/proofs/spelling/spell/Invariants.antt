@@ -1,7 +1,7 @@
 use Rattle.std.proofs.Common.{◌≡◌, ◌++◌, drop}
 use Rattle.row_cells.specs.Dimensions.{key_bytes}
 use Rattle.row_cells.specs.Fitting.{dimensions_of}
-use Rattle.row_cells.specs.KeyedLaws.{AreSpellable}
+use Rattle.row_cells.specs.Spellable.{AreSpellable}
 use Rattle.series_id.proofs.spelling.spell.Given as goal
 
 abbrev pub invariant-loop-i : goal.invariant-loop-i

@@ -2,8 +2,8 @@ use Rattle.std.proofs.Common.{◌≡◌, ◌∷◌, ap, ◌∙◌, sym, subst}
 use Rattle.std.specs.List.{slice_get}
 use Rattle.std.specs.Cmp.Lexicographic.{slice_cmp}
 use Rattle.std.specs.Ordering.{nat_cmp}
-use Rattle.shard_route.specs.Routing.{is_among, path_of, routing_paths}
-use Rattle.shard_route.specs.RoutingLaws.{Ascend, Looked, look_less, among_less, look_equal, among_greater}
+use Rattle.shard_route.specs.Routing.{Ascend, Looked, is_among, path_of, routing_paths}
+use Rattle.shard_route.specs.RoutingLaws.{look_less, among_less, look_equal, among_greater}
 use Rattle.shard_route.proofs.routing.look_for.Goals as goal
 
 pub loop-place-preserved : goal.loop-place-preserved

@@ -1,6 +1,5 @@
 use Rattle.std.proofs.Common.{◌≡◌, length}
-use Rattle.shard_route.specs.Routing.{is_among, routing_paths}
-use Rattle.shard_route.specs.RoutingLaws.{Looked}
+use Rattle.shard_route.specs.Routing.{Looked, is_among, routing_paths}
 use Rattle.shard_route.proofs.routing.look_for.Given as goal
 
 abbrev pub invariant-loop-place : goal.invariant-loop-place

@@ -1,4 +1,5 @@
 use Rattle.std.proofs.Common.{◌∙◌, sym, rules}
+use Rattle.row_cells.specs.Heads.{scalar_of}
 use Rattle.shard_route.specs.Routing.{routing_paths}
 use Rattle.shard_route.proofs.Walks.{walk_on_kept, walk_on_passed, walk_done, not_absent}
 use Rattle.shard_route.proofs.routing.routing_hash.Goals as goal
@@ -15,12 +16,12 @@ loop-entry-preserved c =
       | then-look w ↦
           record {
             ascend = looked.ascend;
-            walked = λ ds are spelled. walk_on_kept left left' all c.loop-entry.hash c.if-look.hash c.loop-entry.rest.now entry.path.now entry.bytes.now entry.rest.now ds c.in-Some.ensures.reads c.in-Some.ensures.shorter looked (sym c.look_for-look.ensures.routes ∙ w.if-look.true) (w.hash-is ∙ w.hash_on-hash.ensures) (c.loop-entry.invariant.walked ds are spelled);
+            walked = λ ds are spelled. walk_on_kept left left' all c.loop-entry.hash c.if-look.hash c.loop-entry.rest.now entry.path.now entry.bytes.now entry.rest.now (scalar_of entry.value) ds c.in-Some.ensures.reads c.in-Some.ensures.shorter looked (sym c.look_for-look.ensures.routes ∙ w.if-look.true) (w.hash-is ∙ w.hash_on-hash.ensures) (c.loop-entry.invariant.walked ds are spelled);
           }
       | else-look w ↦
           record {
             ascend = looked.ascend;
-            walked = λ ds are spelled. walk_on_passed left left' all c.loop-entry.hash c.if-look.hash c.loop-entry.rest.now entry.path.now entry.bytes.now entry.rest.now ds c.in-Some.ensures.reads c.in-Some.ensures.shorter looked (sym c.look_for-look.ensures.routes ∙ w.if-look.false) w.hash-is (c.loop-entry.invariant.walked ds are spelled);
+            walked = λ ds are spelled. walk_on_passed left left' all c.loop-entry.hash c.if-look.hash c.loop-entry.rest.now entry.path.now entry.bytes.now entry.rest.now (scalar_of entry.value) ds c.in-Some.ensures.reads c.in-Some.ensures.shorter looked (sym c.look_for-look.ensures.routes ∙ w.if-look.false) w.hash-is (c.loop-entry.invariant.walked ds are spelled);
           }
     ]
 

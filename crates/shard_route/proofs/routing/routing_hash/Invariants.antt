@@ -1,7 +1,7 @@
 use Rattle.std.proofs.Common.{◌≡◌, List, length}
 use Rattle.row_cells.specs.Dimensions.{AreDimensions, Dimension, key_bytes}
-use Rattle.shard_route.specs.Routing.{routing_paths}
-use Rattle.shard_route.specs.RoutingLaws.{Ascend, Walked}
+use Rattle.shard_route.specs.Routing.{Ascend, routing_paths}
+use Rattle.shard_route.specs.RoutingLaws.{Walked}
 use Rattle.shard_route.proofs.routing.routing_hash.Given as goal
 
 abbrev pub invariant-loop-entry : goal.invariant-loop-entry
