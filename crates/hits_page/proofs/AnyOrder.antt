@@ -12,8 +12,8 @@ use Rattle.row_cells.specs.OrderLaws.{tied_rows}
 use Rattle.hits_page.specs.Hits.{hit_cmp, sort_cmp}
 use Rattle.hits_page.specs.OrderOfOffers.{AllApart, AreApart, PagesInAnyOrder, Rearranged}
 use Rattle.hits_page.specs.PageLaws.{hit_total}
-use Rattle.hits_page.specs.Sorted.{put, sorted}
-use Rattle.hits_page.specs.SortLaws.{Told, sorted_front}
+use Rattle.row_cells.specs.Sorted.{put, sorted}
+use Rattle.row_cells.specs.SortedLaws.{Told, sorted_front}
 use Rattle.hits_page.specs.declared.hits.Hit.{Hit}
 use Rattle.hits_page.specs.declared.hits.Page.{Page}
 use Rattle.hits_page.specs.declared.hits.Picked.{Picked}

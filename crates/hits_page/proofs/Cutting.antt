@@ -4,7 +4,7 @@ use Rattle.std.proofs.Common.{ap, sym, ◌∙◌, arith}
 use Rattle.std.proofs.lemmas.List.{drop-take}
 use Rattle.hits_page.specs.Hits.{hit_cmp}
 use Rattle.hits_page.specs.Pages.{Stands, page_of}
-use Rattle.hits_page.specs.Sorted.{sorted}
+use Rattle.row_cells.specs.Sorted.{sorted}
 use Rattle.hits_page.specs.declared.hits.Hit.{Hit}
 use Rattle.hits_page.specs.declared.hits.Page.{Page}
 use Rattle.hits_page.specs.declared.hits.Picked.{Picked}

@@ -8,8 +8,8 @@ use Rattle.row_cells.specs.declared.scalars.Scalar.{Scalar}
 use Rattle.hits_page.specs.Hits.{hit_cmp, is_before, is_before_hit, is_behind, is_behind_hit, place_of}
 use Rattle.hits_page.specs.PageLaws.{hit_total}
 use Rattle.hits_page.specs.Pages.{Stands, best_with}
-use Rattle.hits_page.specs.Sorted.{put, sorted}
-use Rattle.hits_page.specs.SortLaws.{Ascend, Before, Behind, BehindFront, put_at, sorted_ascends, take_ascends, take_insert, take_put}
+use Rattle.row_cells.specs.Sorted.{put, sorted}
+use Rattle.row_cells.specs.SortedLaws.{Ascend, Before, Behind, BehindFront, put_at, sorted_ascends, take_ascends, take_insert, take_put}
 use Rattle.hits_page.specs.declared.hits.Hit.{Hit}
 use Rattle.hits_page.specs.declared.pager.Pager.{Pager}
 use Rattle.hits_page.specs.declared.sort_keys.SortKey.{SortKey}

@@ -2,6 +2,4 @@ pub mod Hits
 pub mod OrderOfOffers
 pub mod PageLaws
 pub mod Pages
-pub mod Sorted
-pub mod SortLaws
 pub mod Sorts

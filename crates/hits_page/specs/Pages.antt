@@ -3,7 +3,7 @@ use Rattle.std.specs.Prelude.{◌≡◌, ℕ, ◌+◌, ◌<◌, nat_le, List, le
 use Rattle.std.specs.List.{insert}
 use Rattle.row_cells.specs.declared.scalars.Scalar.{Scalar}
 use Rattle.hits_page.specs.Hits.{hit_cmp}
-use Rattle.hits_page.specs.Sorted.{sorted}
+use Rattle.row_cells.specs.Sorted.{sorted}
 use Rattle.hits_page.specs.declared.hits.Hit.{Hit}
 use Rattle.hits_page.specs.declared.hits.Page.{Page}
 use Rattle.hits_page.specs.declared.pager.Offer.{Offer}

@@ -23,6 +23,8 @@ pub mod RangeLaws
 pub mod Reach
 pub mod RowLists
 pub mod SetLaws
+pub mod Sorted
+pub mod SortedLaws
 pub mod Spellable
 pub mod Texts
 pub mod WidenFoldLaws

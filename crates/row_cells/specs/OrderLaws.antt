@@ -15,6 +15,8 @@ use Rattle.row_cells.specs.declared.rows.Row.{Row}
 use Rattle.row_cells.specs.Order.{row_cmp}
 use Rattle.row_cells.specs.Each.{Each}
 use Rattle.row_cells.specs.EachLaws.{Each-weaker, Each-filter}
+use Rattle.row_cells.specs.Sorted.{put, sorted}
+use Rattle.row_cells.specs.SortedLaws.{put_each}
 use Rattle.row_cells.specs.RowLists.{AreInRowOrder, insert_row, in_row_order, documents}
 
 pub row_cmp_total : IsTotalOrder row_cmp
@@ -94,13 +96,17 @@ in_order-ascends (row ∷ rows) order =
 
 -- ---- rows put in order
 
+-- rows are put in order as elements of any order are
+pub insert_row-put : (row : Row) (rows : List Row) → insert_row row rows ≡ put row_cmp row rows
+insert_row-put row [] = refl
+insert_row-put row (first ∷ rest) = ap (λ rs. if is_le (row_cmp row first) then row ∷ first ∷ rest else first ∷ rs) (insert_row-put row rest)
+
+pub in_row_order-sorted : (rows : List Row) → in_row_order rows ≡ sorted row_cmp rows
+in_row_order-sorted [] = refl
+in_row_order-sorted (row ∷ rows) = ap (insert_row row) (in_row_order-sorted rows) ∙ insert_row-put row (sorted row_cmp rows)
+
 pub insert_each : (P : Row → Type 0) (row : Row) (rows : List Row) → P row → Each P rows → Each P (insert_row row rows)
-insert_each P row [] here each = (here, tt)
-insert_each P row (first ∷ rest) here each = by_test (is_le (row_cmp row first)) (insert_each P row rest here each.1)
-  where
-    by_test : (b : Bool) → Each P (insert_row row rest) → Each P (if b then row ∷ first ∷ rest else first ∷ insert_row row rest)
-    by_test true later = (here, each)
-    by_test false later = (each.0, later)
+insert_each P row rows here each = subst (Each P) (sym (insert_row-put row rows)) (put_each row_cmp row_cmp_total P row rows here each)
 
 -- rows put in order are the same rows
 pub in_row_order-each : (P : Row → Type 0) (rows : List Row) → Each P rows → Each P (in_row_order rows)

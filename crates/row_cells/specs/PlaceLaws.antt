@@ -8,7 +8,7 @@ use Rattle.std.specs.Ordering.{is_le, is_gt, int_cmp, int_eq, nat_cmp, ordering_
 use Rattle.std.specs.declared.cmp.Ordering.{Ordering}
 use Rattle.std.specs.declared.cmp.Ordering.TheVariants.{Less, Equal, Greater}
 use Rattle.std.proofs.Common.{refl, ap, ◌∙◌, sym, inl, inr, arith, add_assoc}
-use Rattle.std.proofs.lemmas.Bool.{and_from, both_ways, cond-true, cond-false}
+use Rattle.std.proofs.lemmas.Bool.{and_from, both_ways}
 use Rattle.std.proofs.lemmas.Bool.Decides.{Decides-int_eq}
 use Rattle.std.proofs.lemmas.Slice.Eq.{bytes_eq-Decides}
 use Rattle.row_cells.specs.declared.rows.Row.{Row}
@@ -16,7 +16,9 @@ use Rattle.row_cells.specs.Each.{Each}
 use Rattle.row_cells.specs.EachLaws.{Each-filter, Each-weaker}
 use Rattle.row_cells.specs.Order.{row_cmp}
 use Rattle.row_cells.specs.RowLists.{AreApart, AreInRowOrder, AreDistinct, IsAmong, has_place, insert_row, in_row_order, documents}
-use Rattle.row_cells.specs.OrderLaws.{IsUpTo, insert_first, row_cmp_total, tied_rows, in_order-ascends, in_row_order-ascends, in_row_order-same, upto_chain, upto_of_le}
+use Rattle.row_cells.specs.Sorted.{put}
+use Rattle.row_cells.specs.SortedLaws.{put_both}
+use Rattle.row_cells.specs.OrderLaws.{IsUpTo, insert_first, insert_row-put, row_cmp_total, tied_rows, in_order-ascends, in_row_order-ascends, in_row_order-same}
 use Rattle.row_cells.specs.SetLaws.{among_sorted, sorted_is, sorted_distinct}
 
 -- rows in row order stay as they are
@@ -99,39 +101,18 @@ behind x s Less is above = cc
 behind x s Equal is above = cc
 behind x s Greater is above = row_cmp_total.antisymm s x ∙ ap ordering_reverse is
 
-le_of : (a b : Row) → IsUpTo a b → is_le (row_cmp a b) ≡ true
-le_of a b up = by_order (row_cmp a b) up
+-- two rows, of which one stands before the other, are put in one after the other in either order
+insert_swap : (x s : Row) (rows : List Row) → row_cmp s x ≡ Less → insert_row s (insert_row x rows) ≡ insert_row x (insert_row s rows)
+insert_swap x s rows before =
+    let both = put_both row_cmp row_cmp_total s x rows (λ tied. less_not_equal (sym before ∙ tied)) in
+    insert_row-put s (insert_row x rows)
+    ∙ (ap (put row_cmp s) (insert_row-put x rows)
+    ∙ (both
+    ∙ (sym (ap (put row_cmp x) (insert_row-put s rows))
+    ∙ sym (insert_row-put x (insert_row s rows)))))
   where
-    by_order : (o : Ordering) → is_gt o ≡ false → is_le o ≡ true
-    by_order Less up = refl
-    by_order Equal up = refl
-    by_order Greater up = cc
-
--- what is behind a row is behind all that are up to it
-up_front : (x s r : Row) → row_cmp s x ≡ Less → is_le (row_cmp x r) ≡ true → is_le (row_cmp s r) ≡ true
-up_front x s r before up = le_of s r (upto_chain s x r (ap is_gt before) (upto_of_le x r (row_cmp x r) refl up))
-
--- two rows, of which the first stands behind the second, are put in one after the other in either order
-insert_swap : (x s : Row) (rows : List Row) → row_cmp s x ≡ Less → is_le (row_cmp x s) ≡ false → insert_row s (insert_row x rows) ≡ insert_row x (insert_row s rows)
-insert_swap x s [] before after =
-    cond-true (is_le (row_cmp s x)) (s ∷ x ∷ []) (x ∷ s ∷ []) (ap is_le before) ∙ sym (cond-false (is_le (row_cmp x s)) (x ∷ s ∷ []) (s ∷ x ∷ []) after)
-insert_swap x s (r ∷ rest) before after = by_tests (is_le (row_cmp x r)) (is_le (row_cmp s r)) refl refl (insert_swap x s rest before after)
-  where
-    by_tests : (a b : Bool) → is_le (row_cmp x r) ≡ a → is_le (row_cmp s r) ≡ b → insert_row s (insert_row x rest) ≡ insert_row x (insert_row s rest)
-        → insert_row s (if a then x ∷ r ∷ rest else r ∷ insert_row x rest) ≡ insert_row x (if b then s ∷ r ∷ rest else r ∷ insert_row s rest)
-    by_tests true true is_x is_s later =
-        cond-true (is_le (row_cmp s x)) (s ∷ x ∷ r ∷ rest) (x ∷ insert_row s (r ∷ rest)) (ap is_le before)
-        ∙ (sym (ap (λ rows. s ∷ rows) (cond-true (is_le (row_cmp x r)) (x ∷ r ∷ rest) (r ∷ insert_row x rest) is_x))
-        ∙ sym (cond-false (is_le (row_cmp x s)) (x ∷ s ∷ r ∷ rest) (s ∷ insert_row x (r ∷ rest)) after))
-    by_tests true false is_x is_s later = absurd (both_ways (is_le (row_cmp s r)) is_s (up_front x s r before is_x))
-    by_tests false true is_x is_s later =
-        cond-true (is_le (row_cmp s r)) (s ∷ r ∷ insert_row x rest) (r ∷ insert_row s (insert_row x rest)) is_s
-        ∙ (sym (ap (λ rows. s ∷ rows) (cond-false (is_le (row_cmp x r)) (x ∷ r ∷ rest) (r ∷ insert_row x rest) is_x))
-        ∙ sym (cond-false (is_le (row_cmp x s)) (x ∷ s ∷ r ∷ rest) (s ∷ insert_row x (r ∷ rest)) after))
-    by_tests false false is_x is_s later =
-        cond-false (is_le (row_cmp s r)) (s ∷ r ∷ insert_row x rest) (r ∷ insert_row s (insert_row x rest)) is_s
-        ∙ (ap (λ rows. r ∷ rows) later
-        ∙ sym (cond-false (is_le (row_cmp x r)) (x ∷ r ∷ insert_row s rest) (r ∷ insert_row x (insert_row s rest)) is_x))
+    less_not_equal : Less ≡ Equal → ⊥
+    less_not_equal e = cc
 
 -- what is in order in front of others may be put in order first
 insert_front : (x : Row) (xs ys : List Row) → in_row_order (insert_row x xs ++ ys) ≡ insert_row x (in_row_order (xs ++ ys))
@@ -140,7 +121,7 @@ insert_front x (first ∷ rest) ys = by_test (is_le (row_cmp x first)) refl (ins
   where
     by_test : (b : Bool) → is_le (row_cmp x first) ≡ b → in_row_order (insert_row x rest ++ ys) ≡ insert_row x (in_row_order (rest ++ ys)) → in_row_order ((if b then x ∷ first ∷ rest else first ∷ insert_row x rest) ++ ys) ≡ insert_row x (insert_row first (in_row_order (rest ++ ys)))
     by_test true is later = refl
-    by_test false is later = ap (insert_row first) later ∙ insert_swap x first (in_row_order (rest ++ ys)) (behind x first (row_cmp x first) refl is) is
+    by_test false is later = ap (insert_row first) later ∙ insert_swap x first (in_row_order (rest ++ ys)) (behind x first (row_cmp x first) refl is)
 
 pub in_row_order-append_left : (xs ys : List Row) → in_row_order (in_row_order xs ++ ys) ≡ in_row_order (xs ++ ys)
 in_row_order-append_left [] ys = refl
@@ -194,7 +175,7 @@ insert_behind : (row : Row) (xs ys : List Row) → Each (λ x. row_cmp row x ≡
 insert_behind row [] ys before = refl
 insert_behind row (x ∷ xs) ys before =
     ap (insert_row x) (insert_behind row xs ys before.1)
-    ∙ sym (insert_swap x row (in_row_order (xs ++ ys)) before.0 (ap is_le (row_cmp_total.antisymm x row ∙ ap ordering_reverse before.0)))
+    ∙ sym (insert_swap x row (in_row_order (xs ++ ys)) before.0)
 
 -- rows in row order are those that pass a test and those that don't, put in order again
 pub split_stays : (test : Row → Bool) (rows : List Row) → AreInRowOrder rows → in_row_order (filter test rows ++ filter (λ row. not (test row)) rows) ≡ rows

@@ -38,21 +38,16 @@ in_order-take zero rows are = tt
 in_order-take (suc n) [] are = tt
 in_order-take (suc n) (row ∷ rows) are = (each_take (λ next. row_cmp row next ≡ Less) n rows are.0, in_order-take n rows are.1)
 
-documents-drop : (n : ℕ) (rows : List Row) → documents (drop n rows) ≤ documents rows
-documents-drop zero rows = omega arith
-documents-drop (suc n) [] = omega arith
-documents-drop (suc n) (row ∷ rows) = omega (arith, documents-drop n rows)
-
-documents-take : (n : ℕ) (rows : List Row) → documents (take n rows) ≤ documents rows
-documents-take zero rows = omega arith
-documents-take (suc n) [] = omega arith
-documents-take (suc n) (row ∷ rows) = omega (arith, documents-take n rows)
+pub documents_parts : (n : ℕ) (rows : List Row) → documents (take n rows) + documents (drop n rows) ≡ documents rows
+documents_parts zero rows = omega arith
+documents_parts (suc n) [] = refl
+documents_parts (suc n) (row ∷ rows) = omega (arith, documents_parts n rows)
 
 pub range_is_rows : (schema : Schema) (rows : List Row) (from to : ℕ) → AreRowsOf schema rows → AreRowsOf schema (slice_range rows from to)
 range_is_rows schema rows from to are = record {
   each = each_take (IsRowOf schema) (to - from) (drop from rows) (each_drop (IsRowOf schema) from rows are.each);
   in_order = in_order-take (to - from) (drop from rows) (in_order-drop from rows are.in_order);
-  few = omega (arith, documents-take (to - from) (drop from rows), documents-drop from rows, are.few);
+  few = omega (arith, documents_parts (to - from) (drop from rows), documents_parts from rows, are.few);
 }
 
 -- ---- a test

@@ -8,7 +8,8 @@ use Rattle.std.specs.declared.cmp.Ordering.TheVariants.{Less, Equal, Greater}
 use Rattle.std.proofs.Common.{refl, ap, ◌∙◌, sym, subst, arith}
 use Rattle.row_cells.specs.Each.{Each}
 use Rattle.row_cells.specs.EachLaws.{Each-weaker}
-use Rattle.hits_page.specs.Sorted.{put, sorted}
+use Rattle.row_cells.specs.RangeLaws.{each_take}
+use Rattle.row_cells.specs.Sorted.{put, sorted}
 
 module _ {A : Type 0} (cmp : A → A → Ordering) (total : IsTotalOrder cmp) where
   -- an element isn't behind another
@@ -39,7 +40,7 @@ module _ {A : Type 0} (cmp : A → A → Ordering) (total : IsTotalOrder cmp) wh
   pub upto_other : (x y : A) → is_le (cmp x y) ≡ false → UpTo y x
   upto_other x y p = behind_by x y (cmp x y) refl p
 
-  put_each : (P : A → Type 0) (x : A) (ys : List A) → P x → Each P ys → Each P (put cmp x ys)
+  pub put_each : (P : A → Type 0) (x : A) (ys : List A) → P x → Each P ys → Each P (put cmp x ys)
   put_each P x [] here each = (here, tt)
   put_each P x (y ∷ ys) here each = by_test (is_le (cmp x y)) (put_each P x ys here each.1)
     where
@@ -59,15 +60,10 @@ module _ {A : Type 0} (cmp : A → A → Ordering) (total : IsTotalOrder cmp) wh
   sorted_ascends [] = tt
   sorted_ascends (x ∷ xs) = put_ascends x (sorted cmp xs) (sorted_ascends xs)
 
-  take_each : (P : A → Type 0) (n : ℕ) (xs : List A) → Each P xs → Each P (take n xs)
-  take_each P zero xs each = tt
-  take_each P (suc n) [] each = tt
-  take_each P (suc n) (x ∷ xs) each = (each.0, take_each P n xs each.1)
-
   pub take_ascends : (n : ℕ) (xs : List A) → Ascend xs → Ascend (take n xs)
   take_ascends zero xs ascend = tt
   take_ascends (suc n) [] ascend = tt
-  take_ascends (suc n) (x ∷ xs) ascend = (take_each (UpTo x) n xs ascend.0, take_ascends n xs ascend.1)
+  take_ascends (suc n) (x ∷ xs) ascend = (each_take (UpTo x) n xs ascend.0, take_ascends n xs ascend.1)
 
   -- what is put where the front ends and what isn't behind begins stands in its place
   abbrev pub Behind : A → Option A → Type 0
