@@ -23,7 +23,7 @@ same_parts (x ∷ xs) (y ∷ ys) us vs long same =
 abbrev pub day_of : ℤ → ℕ
 day_of t = unsigned_abs t / 86_400_000
 
-day_small : (t : ℤ) → IsInstant t → day_of t ≤ 2_932_896
+pub day_small : (t : ℤ) → IsInstant t → day_of t ≤ 2_932_896
 day_small (pos n) is = omega (arith, ints, is)
 day_small (negsuc n) is = omega (arith, ints, is)
 
