@@ -1,2 +1,3 @@
 pub mod BulkLemmas
+pub mod Streams
 pub mod UsualLines

@@ -1,8 +1,7 @@
 pub mod Actions
 pub mod Items
 pub mod Lent
-pub mod LentLaws
+pub mod Laws
 pub mod Lines
 pub mod Sound
-pub mod SoundLaws
 pub mod Usual

@@ -1,6 +1,6 @@
 use Rattle.std.proofs.Common.{◌∙◌, sym}
 use Rattle.bulk_json.specs.Lent.{path_in}
-use Rattle.bulk_json.specs.SoundLaws.{asked_stream}
+use Rattle.bulk_json.proofs.Streams.{asked_stream}
 use Rattle.bulk_json.proofs.BulkLemmas.{passed, no-action, taken-alone, lacks-source, taken-with-source, empty-at, some-at}
 use Rattle.bulk_json.proofs.items.read_step.Goals as goal
 
