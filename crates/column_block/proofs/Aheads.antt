@@ -8,7 +8,6 @@ use Rattle.std.proofs.Math.Seq.{take-add}
 use Rattle.column_pack.specs.Digits.{bytes_for}
 use Rattle.column_block.specs.Presence.{presence, present, flags_of, flags_in, ones, spread}
 use Rattle.column_block.specs.Spelling.{IsAhead}
-use Rattle.packed_lists.specs.Found.{IsFound}
 use Rattle.packed_lists.specs.Laws.Fronts.{take-front, drop-front}
 use Rattle.column_block.proofs.Presences.{length-presence, flags-are, present-take, present-drop, length-present, flags-take, length-flags, ones-append}
 
@@ -18,6 +17,12 @@ flags-known rows bytes vs lists n (rest, g, e) = ap (λ z. flags_in z bytes) (sy
 
 pub long-enough : {A : Type 0} (bytes : List ℕ) (vs : List (Option A)) (lists : List (List ℤ)) → IsAhead (presence (flags_of vs)) lists bytes → length vs ≤ 8 * length bytes
 long-enough bytes vs lists (rest, g, e) = omega (arith, ap (λ (z : List ℕ). length z) e, length-append (presence (flags_of vs)) rest, length-presence (flags_of vs), length-map vs is_some)
+
+-- the same of a column that is being written
+pub built-long : {A : Type 0} (vs : List (Option A)) (old mid now again nums : List ℕ) → old ≡ [] → mid ≡ old ++ presence (flags_of vs) → now ≡ mid ++ nums → again ≡ now → length vs ≤ 8 * length again
+built-long vs old mid now again nums a b f g =
+    let e : again ≡ presence (flags_of vs) ++ nums = g ∙ f ∙ ap (λ z. z ++ nums) (b ∙ ap (λ z. z ++ presence (flags_of vs)) a) in
+    omega (arith, ap (λ (z : List ℕ). length z) e, length-append (presence (flags_of vs)) nums, length-presence (flags_of vs), length-map vs is_some)
 
 -- how many of the first rows have a value
 pub count-to : {A : Type 0} (rows row : ℕ) (bytes : List ℕ) (vs : List (Option A)) → length vs ≡ rows → flags_in rows bytes ≡ flags_of vs → row ≤ rows → ones (flags_in row bytes) ≡ length (present (take row vs))
@@ -73,13 +78,13 @@ present-spread (false ∷ fs) xs n = present-spread fs xs n
 present-spread (true ∷ fs) [] n = absurd (omega arith)
 present-spread (true ∷ fs) (x ∷ xs) n = ap (λ z. x ∷ z) (present-spread fs xs (omega arith))
 
--- a list that was found behind a front
-pub found-behind : (bytes front rest : List ℕ) (size end : ℕ) (places : List ℕ) (ns : List ℤ) → bytes ≡ front ++ rest → size ≡ length front → (h : IsFound bytes size end places ns) → take end bytes ≡ front ++ h.nums
-found-behind bytes front rest size end places ns e n h =
-    let whole : bytes ≡ (front ++ h.nums) ++ drop end bytes =
-    e ∙ ap (λ z. front ++ z) (sym (drop-front bytes front rest size e n) ∙ h.behind) ∙ sym (append_assoc front h.nums (drop end bytes)) in
-    let m : end ≡ length (front ++ h.nums) = omega (arith, ap (λ (z : List ℕ). length z) whole, length-append (front ++ h.nums) (drop end bytes), length-drop end bytes, h.within) in
-    take-front bytes (front ++ h.nums) (drop end bytes) end whole m
+-- what was found behind a front
+pub found-behind : (bytes front nums rest : List ℕ) (size end : ℕ) → bytes ≡ front ++ rest → size ≡ length front → drop size bytes ≡ nums ++ drop end bytes → end ≤ length bytes → take end bytes ≡ front ++ nums
+found-behind bytes front nums rest size end e n behind within =
+    let whole : bytes ≡ (front ++ nums) ++ drop end bytes =
+    e ∙ ap (λ z. front ++ z) (sym (drop-front bytes front rest size e n) ∙ behind) ∙ sym (append_assoc front nums (drop end bytes)) in
+    let m : end ≡ length (front ++ nums) = omega (arith, ap (λ (z : List ℕ). length z) whole, length-append (front ++ nums) (drop end bytes), length-drop end bytes, within) in
+    take-front bytes (front ++ nums) (drop end bytes) end whole m
 
 pub presence-size : (rows : ℕ) (bytes : List ℕ) → div_ceil rows 8 ≡ length (presence (flags_in rows bytes))
 presence-size rows bytes = omega (arith, length-presence (flags_in rows bytes), length-flags rows bytes)

@@ -1,6 +1,5 @@
 -- What is among the items of lists.
-use Rattle.std.proofs.Common.{◌≡◌, ◌⊎◌, inl, inr, ℕ, suc, zero, ◌+◌, ◌-◌, ◌<◌, Bool, true, false, ◌||◌, List, [], ◌∷◌, ◌++◌, length, get_or, take, drop, map, refl, sym, ◌∙◌, ap, subst, arith, Ordering, Less, Equal, Greater}
-use Rattle.std.specs.Prelude.{slice_range}
+use Rattle.std.proofs.Common.{◌≡◌, ◌⊎◌, inl, inr, ℕ, suc, zero, ◌+◌, ◌<◌, Bool, true, false, ◌||◌, List, [], ◌∷◌, ◌++◌, length, get_or, take, map, refl, sym, ◌∙◌, ap, subst, arith, Ordering, Less, Equal, Greater}
 use Rattle.std.specs.BTreeSet.{insert_key}
 use Rattle.std.specs.Cmp.Lexicographic.{slice_cmp}
 use Rattle.std.specs.List.{list_any}
@@ -10,9 +9,10 @@ use Rattle.std.proofs.lemmas.List.{append_assoc, append-nil, take_more}
 use Rattle.std.proofs.lemmas.Map.Text.{is_eq-slice_cmp}
 use Rattle.std.proofs.lemmas.Slice.Eq.{bytes_eq-Decides}
 use Rattle.row_cells.specs.Each.{Each}
-use Rattle.column_block.specs.Spelling.{IsIn, joined}
+use Rattle.packed_lists.specs.Lists.{joined}
+use Rattle.packed_lists.specs.Laws.Picking.{joined-append}
+use Rattle.column_block.specs.Spelling.{IsIn}
 use Rattle.column_block.specs.Worded.{HaveSame}
-use Rattle.column_block.proofs.Cuts.{joined-append}
 
 pub in-left : {A : Type 0} (x : A) (a b : List A) → IsIn x a → IsIn x (a ++ b)
 in-left x [] b h = absurd h
@@ -51,11 +51,6 @@ in-joined x [] k d h g = absurd (omega arith)
 in-joined x (xs ∷ lists) zero d h g = in-left x xs (joined lists) g
 in-joined x (xs ∷ lists) (suc k) d h g = in-right x xs (joined lists) (in-joined x lists k d (omega arith) g)
 
-pub each-at : {A : Type 0} (P : A → Type 0) (xs : List A) (k : ℕ) (d : A) → k < length xs → Each P xs → P (get_or xs k d)
-each-at P [] k d h all = absurd (omega arith)
-each-at P (x ∷ xs) zero d h all = all.0
-each-at P (x ∷ xs) (suc k) d h all = each-at P xs k d (omega arith) all.1
-
 pub each-in : {A : Type 0} (P : A → Type 0) (xs : List A) (x : A) → Each P xs → IsIn x xs → P x
 each-in P [] x all h = absurd h
 each-in P (y ∷ xs) x all (inl e) = subst P (sym e) all.0
@@ -64,13 +59,6 @@ each-in P (y ∷ xs) x all (inr h) = each-in P xs x all.1 h
 pub each-all : {A : Type 0} (P : A → Type 0) (xs : List A) → ((x : A) → IsIn x xs → P x) → Each P xs
 each-all P [] all = tt
 each-all P (x ∷ xs) all = (all x (inl refl), each-all P xs (λ y h. all y (inr h)))
-
-pub each-append : {A : Type 0} (P : A → Type 0) (a b : List A) → Each P a → Each P b → Each P (a ++ b)
-each-append P [] b h k = k
-each-append P (x ∷ a) b h k = (h.0, each-append P a b h.1 k)
-
-pub each-push : {A : Type 0} (P : A → Type 0) (xs : List A) (k : ℕ) (d : A) → k < length xs → Each P (take k xs) → P (get_or xs k d) → Each P (take (k + 1) xs)
-each-push P xs k d h all one = subst (λ z. Each P z) (sym (take_more xs k d h)) (each-append P (take k xs) (get_or xs k d ∷ []) all (one, tt))
 
 -- ---- the same texts
 
@@ -134,16 +122,3 @@ first-or t k ks false e rest h = inr (rest h)
 pub any-in : (t : List ℕ) (ks : List (List ℕ)) → list_any (λ x. is_eq (slice_cmp nat_cmp t x)) ks ≡ true → IsIn t ks
 any-in t [] h = absurd (false≢true h)
 any-in t (k ∷ ks) h = first-or t k ks (is_eq (slice_cmp nat_cmp t k)) refl (any-in t ks) h
-
-each-take : {A : Type 0} (P : A → Type 0) (k : ℕ) (xs : List A) → Each P xs → Each P (take k xs)
-each-take P zero xs h = tt
-each-take P (suc k) [] h = tt
-each-take P (suc k) (x ∷ xs) h = (h.0, each-take P k xs h.1)
-
-each-drop : {A : Type 0} (P : A → Type 0) (k : ℕ) (xs : List A) → Each P xs → Each P (drop k xs)
-each-drop P zero xs h = h
-each-drop P (suc k) [] h = tt
-each-drop P (suc k) (x ∷ xs) h = each-drop P k xs h.1
-
-pub each-range : {A : Type 0} (P : A → Type 0) (xs : List A) (from to : ℕ) → Each P xs → Each P (slice_range xs from to)
-each-range P xs from to h = each-take P (to - from) (drop from xs) (each-drop P from xs h)

@@ -1,16 +1,18 @@
 -- Lists of places in a table.
-use Rattle.std.proofs.Common.{◌≡◌, ◌↔◌, inl, inr, ℕ, ℤ, pos, negsuc, ◌+◌, ◌<◌, ◌^◌, Bool, true, false, List, [], ◌∷◌, ◌++◌, length, get_or, set, take, drop, map, refl, sym, ◌∙◌, ap, subst, arith}
+use Rattle.std.proofs.Common.{◌≡◌, ◌↔◌, inl, inr, ℕ, ℤ, pos, negsuc, ◌+◌, ◌<◌, ◌^◌, Bool, true, false, List, [], ◌∷◌, ◌++◌, length, get_or, set, take, map, refl, sym, ◌∙◌, ap, subst, arith}
 use Rattle.std.specs.Prelude.{◌+ℤ◌, ◌≤ℤ◌, ◌<ℤ◌, unsigned_abs, IsTrue}
 use Rattle.std.proofs.lemmas.Bool.{cases_eq}
 use Rattle.std.proofs.lemmas.Int.{ints, to_z-of_z, fits_signed_from_abs}
 use Rattle.std.specs.Int.{w64, cast_signed, cast_unsigned}
-use Rattle.std.proofs.lemmas.List.{append_assoc, drop_more, take_more, get_or_default, get_or-set_same, get_or-set_other, length-map, length-set}
+use Rattle.std.proofs.lemmas.List.{append_assoc, take_more, get_or_default, get_or-set_same, get_or-set_other, length-map, length-set, map-append}
 use Rattle.column_block.specs.Cutting.{IsShort}
 use Rattle.row_cells.specs.Each.{Each}
 use Rattle.column_block.specs.Rules.{IsText, IsTextRow, TextsAscend, TextsAscendAfter}
-use Rattle.column_block.specs.Spelling.{IsIn, IsTableOf, joined, ordinal, ordinals}
+use Rattle.packed_lists.specs.Lists.{joined}
+use Rattle.column_block.specs.Spelling.{IsIn, IsTableOf, ordinal, ordinals}
 use Rattle.column_block.specs.Worded.{AreMarked, AreOrdinals, AreTexts, ClimbFrom, texts_at, worded}
-use Rattle.column_block.proofs.Among.{in-left, in-right, in-either, in-at, in-map, from-map, each-at}
+use Rattle.column_block.proofs.Among.{in-left, in-right, in-either, in-at, in-map, from-map}
+use Rattle.column_block.specs.EachLaws.{each-at}
 use Rattle.column_block.proofs.Tabling.{stands, ord-of, ord-order, at-order}
 
 -- what stands at a place of a list that climbs
@@ -26,24 +28,7 @@ climb-in low count (w ∷ row) z h v (inr g) = climb-in (w +ℤ pos 1) count row
 pub climb-at : (count : ℤ) (row : List ℤ) (k : ℕ) (d : ℤ) → ClimbFrom (pos 0) count row → k < length row → IsPlace count (get_or row k d)
 climb-at count row k d h b = climb-in (pos 0) count row (omega (arith, ints)) h (get_or row k d) (in-at row k d b)
 
--- one place on
-pub climb-more : (low count v : ℤ) (row : List ℤ) (k : ℕ) → k < length row → v ≡ get_or row k v → (low ≤ℤ v) → (v <ℤ count) → ClimbFrom low count (drop k row) ↔ ClimbFrom (pos 0) count row
-    → ClimbFrom (v +ℤ pos 1) count (drop (k + 1) row) ↔ ClimbFrom (pos 0) count row
-climb-more low count v row k h e a b before =
-    let d : drop k row ≡ v ∷ drop (k + 1) row = drop_more row k v h ∙ ap (λ z. z ∷ drop (k + 1) row) (sym e) in
-    ((λ g. before.0 (subst (ClimbFrom low count) (sym d) (a, b, g))), (λ g. (subst (ClimbFrom low count) d (before.1 g)).2))
-
-pub climb-stops : (low count v : ℤ) (row : List ℤ) (k : ℕ) → k < length row → v ≡ get_or row k v → ClimbFrom low count (drop k row) ↔ ClimbFrom (pos 0) count row → ((low ≤ℤ v) → (v <ℤ count) → ⊥) → ClimbFrom (pos 0) count row → ⊥
-climb-stops low count v row k h e before stop g =
-    let d : drop k row ≡ v ∷ drop (k + 1) row = drop_more row k v h ∙ ap (λ z. z ∷ drop (k + 1) row) (sym e) in
-    let r = subst (ClimbFrom low count) d (before.1 g) in
-    stop r.0 r.1
-
 -- ---- marks
-
-pos-abs : (v : ℤ) → pos 0 ≤ℤ v → pos (unsigned_abs v) ≡ v
-pos-abs (pos n) h = refl
-pos-abs (negsuc n) h = absurd (omega (arith, ints, h))
 
 pub place-abs : (count : ℕ) (v : ℤ) → IsPlace (pos count) v → (pos (unsigned_abs v) ≡ v) × (unsigned_abs v < count)
 place-abs count (pos n) h = (refl, omega (arith, ints, h.below))
@@ -96,10 +81,6 @@ all-marked count rows part seen lent answer l n p c m a = (
 )
 
 -- ---- the places of texts
-
-map-append : {A B : Type 0} (f : A → B) (a b : List A) → map f (a ++ b) ≡ map f a ++ map f b
-map-append f [] b = refl
-map-append f (x ∷ a) b = ap (λ z. f x ∷ z) (map-append f a b)
 
 pub joined-map : {A B : Type 0} (f : A → B) (lists : List (List A)) → joined (map (map f) lists) ≡ map f (joined lists)
 joined-map f [] = refl

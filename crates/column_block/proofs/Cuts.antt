@@ -4,13 +4,15 @@ use Rattle.std.specs.Prelude.{unsigned_abs, slice_range}
 use Rattle.std.specs.Int.{w64, cast_signed, cast_unsigned}
 use Rattle.std.specs.List.{All}
 use Rattle.std.proofs.lemmas.Int.{ints, to_z-of_z, fits_signed_from_abs}
-use Rattle.std.proofs.lemmas.List.{take_more, length-append, length-drop, length-take, take-append-drop, append_assoc, take-map, drop-map, length-map, length-take-le}
+use Rattle.std.proofs.lemmas.List.{take_more, length-append, length-drop, length-take, take-append-drop, take-map, drop-map, length-map, length-take-le}
 use Rattle.std.proofs.lemmas.List.Elements.{All-push, All-head, All-tail, All-nil, All-cons, All-take, All-drop}
 use Rattle.std.proofs.Math.Seq.{take-add, take-append_seam, drop-append_seam}
 use Rattle.row_cells.specs.Limits.{longest_list}
+use Rattle.packed_lists.specs.Lists.{joined}
+use Rattle.packed_lists.specs.Laws.Picking.{joined-append}
 use Rattle.column_block.specs.Cutting.{cut, total, IsSize, IsShort, AreStarts}
 use Rattle.row_cells.specs.Each.{Each}
-use Rattle.column_block.specs.Spelling.{joined, lengths}
+use Rattle.column_block.specs.Spelling.{lengths}
 
 pub size-small : (v : ℤ) → IsSize v → unsigned_abs v ≤ longest_list
 size-small (pos n) h = omega (arith, ints, h.short)
@@ -45,10 +47,6 @@ cut-joined [] = refl
 cut-joined (x ∷ lists) =
     ap (λ z. z ∷ cut (lengths lists) (drop (length x) (x ++ joined lists))) (take-append_seam x (joined lists))
     ∙ ap (λ z. x ∷ cut (lengths lists) z) (drop-append_seam x (joined lists)) ∙ ap (λ z. x ∷ z) (cut-joined lists)
-
-pub joined-append : {A : Type 0} (a b : List (List A)) → joined (a ++ b) ≡ joined a ++ joined b
-joined-append [] b = refl
-joined-append (x ∷ a) b = ap (λ z. x ++ z) (joined-append a b) ∙ sym (append_assoc x (joined a) (joined b))
 
 -- sizes are those of the lists that they cut
 pub lengths-cut : {A : Type 0} (ns : List ℤ) (xs : List A) → All IsSize ns → total ns ≤ length xs → lengths (cut ns xs) ≡ ns

@@ -1,10 +1,10 @@
 -- Folds that go on block by block.
 use Rattle.std.proofs.Common.{◌≡◌, ℕ, ℤ, pos, negsuc, suc, ◌+◌, ◌-◌, ◌*◌, ◌/◌, ◌<◌, ◌≤◌, ◌^◌, ◌≤ℤ◌, ◌+ℤ◌, List, [], ◌∷◌, ◌++◌, length, get_or, take, drop, map, to_z, of_z, refl, sym, ◌∙◌, ap, subst, arith}
-use Rattle.std.specs.Prelude.{Option, Some, Result, Ok, Err, IsOkAnd, slice_range, FitsSigned, unsigned_abs}
+use Rattle.std.specs.Prelude.{Option, Some, slice_range, FitsSigned, unsigned_abs}
 use Rattle.std.specs.Int.{w64, w128, int_min, int_max}
 use Rattle.std.specs.List.{All, Contains}
 use Rattle.std.proofs.lemmas.Int.{ints, clamps, to_z-of_z}
-use Rattle.std.proofs.lemmas.List.{length-map, length-take, length-drop, take-map, drop-map, get_or-map, get_or-take, get_or-drop, get_or_append_left}
+use Rattle.std.proofs.lemmas.List.{length-map, length-take, length-drop, get_or-map, get_or-take, get_or-drop, get_or_append_left}
 use Rattle.std.proofs.lemmas.List.Elements.{All-head, All-tail, All-nil, All-cons, All-contains, All-get_or, All-take, All-drop}
 use Rattle.std.proofs.lemmas.List.Sums.{sum_by-append, sum_by-cons}
 use Rattle.column_pack.specs.Summary.{IsSummary, total_of}
@@ -16,10 +16,11 @@ use Rattle.fold_law.specs.declared.measures.Gauge.{Gauge}
 use Rattle.fold_law.specs.declared.measures.Parts.{Parts}
 use Rattle.row_cells.specs.Limits.{most_documents}
 use Rattle.column_block.specs.Presence.{present}
-use Rattle.column_block.specs.Ranges.{parts_of_one}
+use Rattle.row_cells.specs.Merging.{parts_of_value}
 use Rattle.row_cells.specs.Each.{Each}
 use Rattle.column_block.specs.Rules.{AreParts}
 use Rattle.column_block.proofs.Aheads.{count-order, range-values}
+use Rattle.packed_lists.specs.Laws.Picking.{range-map}
 use Rattle.packed_lists.specs.Laws.Placing.{range-on}
 use Rattle.column_block.proofs.SixLists.{none, block-few}
 
@@ -67,14 +68,11 @@ module _ {F I : Type 0} {none : F} {merge : F → F → F} {reach : F → ℕ} (
 
 -- ---- ranges of rows, by the values that are there
 
-slice-map : {A B : Type 0} (f : A → B) (xs : List A) (from to : ℕ) → slice_range (map f xs) from to ≡ map f (slice_range xs from to)
-slice-map f xs from to = ap (take (to - from)) (drop-map f from xs) ∙ take-map f (to - from) (drop from xs)
-
 pub range-there : {A : Type 0} (vs : List (Option A)) (from to first last : ℕ) → from ≤ to → first ≡ length (present (take from vs)) → last ≡ length (present (take to vs)) → slice_range (present vs) first last ≡ present (slice_range vs from to)
 range-there vs from to first last order a b = ap (λ z. slice_range (present vs) z last) a ∙ ap (slice_range (present vs) (length (present (take from vs)))) b ∙ range-values vs from to order
 
 pub range-mapped : {A B : Type 0} (f : A → B) (vs : List (Option A)) (from to first last : ℕ) → from ≤ to → first ≡ length (present (take from vs)) → last ≡ length (present (take to vs)) → slice_range (map f (present vs)) first last ≡ map f (present (slice_range vs from to))
-range-mapped f vs from to first last order a b = slice-map f (present vs) first last ∙ ap (map f) (range-there vs from to first last order a b)
+range-mapped f vs from to first last order a b = range-map f (present vs) first last ∙ ap (map f) (range-there vs from to first last order a b)
 
 pub range-size : {A : Type 0} (vs : List (Option A)) (from to last : ℕ) → from ≤ to → last ≡ length (present (take to vs)) → last < 2 ^ 32 → length (present (slice_range vs from to)) < 2 ^ 32
 range-size vs from to last order b few = omega (arith, count-order vs from to order, b, few)
@@ -89,12 +87,12 @@ count-few : (n : ℤ) → pos 1 ≤ℤ n → n ≤ℤ pos (most_documents * (2 ^
 count-few (pos n) a b = omega (arith, ints)
 count-few (negsuc n) a b = omega (arith, ints)
 
-numbers-reach : (ns : List ℤ) → All (FitsSigned w64) ns → reach_of_items reach_of_gauge gauge_of_one (map parts_of_one ns) ≤ 2 ^ 63 * length ns
+numbers-reach : (ns : List ℤ) → All (FitsSigned w64) ns → reach_of_items reach_of_gauge gauge_of_one (map parts_of_value ns) ≤ 2 ^ 63 * length ns
 numbers-reach [] h = omega arith
 numbers-reach (v ∷ ns) h =
-    omega (arith, sum_by-cons (λ p. reach_of_gauge (gauge_of_one p)) (parts_of_one v) (map parts_of_one ns), abs-few v (All-head (FitsSigned w64) v ns h), numbers-reach ns (All-tail (FitsSigned w64) v ns h))
+    omega (arith, sum_by-cons (λ p. reach_of_gauge (gauge_of_one p)) (parts_of_value v) (map parts_of_value ns), abs-few v (All-head (FitsSigned w64) v ns h), numbers-reach ns (All-tail (FitsSigned w64) v ns h))
 
-pub numbers-within : (ns : List ℤ) → All (FitsSigned w64) ns → length ns < 2 ^ 32 → reach_of_items reach_of_gauge gauge_of_one (map parts_of_one ns) ≤ 2 ^ 119
+pub numbers-within : (ns : List ℤ) → All (FitsSigned w64) ns → length ns < 2 ^ 32 → reach_of_items reach_of_gauge gauge_of_one (map parts_of_value ns) ≤ 2 ^ 119
 numbers-within ns h few = omega (arith, numbers-reach ns h)
 
 parts-reach : (ps : List Parts) → Each AreParts ps → reach_of_items reach_of_gauge gauge_of_one ps ≤ most_documents * 2 ^ 63 * length ps
@@ -148,20 +146,20 @@ same-most m v vs h k = omega (arith, ints, most-below m v vs h, All-contains (λ
 gauge-of : ℤ → ℤ → ℤ → ℤ → Gauge
 gauge-of a b s n = record { 0 = Some (record { min = a; max = b; sum = s; count = n }) }
 
-gauge-numbers : (v : ℤ) (vs : List ℤ) → fold_of no_gauge merge_gauges gauge_of_one (map parts_of_one (v ∷ vs)) ≡ gauge-of (least v vs) (most v vs) (total_of (v ∷ vs)) (pos (length (v ∷ vs)))
+gauge-numbers : (v : ℤ) (vs : List ℤ) → fold_of no_gauge merge_gauges gauge_of_one (map parts_of_value (v ∷ vs)) ≡ gauge-of (least v vs) (most v vs) (total_of (v ∷ vs)) (pos (length (v ∷ vs)))
 unfolding gauge-of
 gauge-numbers v [] = ap (λ z. gauge-of v v z (pos 1)) (plus-none v)
   where
     plus-none : (a : ℤ) → a ≡ a +ℤ pos 0
     plus-none a = omega (arith, ints)
 gauge-numbers v (w ∷ ws) =
-    ap (merge_gauges (gauge_of_one (parts_of_one v))) (gauge-numbers w ws)
+    ap (merge_gauges (gauge_of_one (parts_of_value v))) (gauge-numbers w ws)
     ∙ ap (gauge-of (int_min v (least w ws)) (int_max v (most w ws)) (v +ℤ total_of (w ∷ ws))) (one-more (length (w ∷ ws)))
   where
     one-more : (n : ℕ) → pos 1 +ℤ pos n ≡ pos (suc n)
     one-more n = omega (arith, ints)
 
-pub gauge-summary : (vs : List ℤ) (s : Summary) → 0 < length vs → IsSummary vs s → record { 0 = Some (record { min = s.min; max = s.max; sum = s.sum; count = pos s.n }) } ≡ fold_of no_gauge merge_gauges gauge_of_one (map parts_of_one vs)
+pub gauge-summary : (vs : List ℤ) (s : Summary) → 0 < length vs → IsSummary vs s → record { 0 = Some (record { min = s.min; max = s.max; sum = s.sum; count = pos s.n }) } ≡ fold_of no_gauge merge_gauges gauge_of_one (map parts_of_value vs)
 unfolding gauge-of
 gauge-summary [] s some h = absurd (omega (arith, some))
 gauge-summary (v ∷ vs) s some h =
@@ -173,30 +171,24 @@ gauge-summary (v ∷ vs) s some h =
 
 -- ---- the parts of numbers that were read
 
-pub mapped-count : (ns : List ℤ) (block n : ℕ) → n ≡ length (slice_range ns (128 * block) (128 * block + 128)) → n ≡ length (slice_range (map parts_of_one ns) (128 * block) (128 * block + 128))
-mapped-count ns block n e = e ∙ sym (ap (λ (z : List Parts). length z) (slice-map parts_of_one ns (128 * block) (128 * block + 128)) ∙ length-map (slice_range ns (128 * block) (128 * block + 128)) parts_of_one)
+pub mapped-count : (ns : List ℤ) (block n : ℕ) → n ≡ length (slice_range ns (128 * block) (128 * block + 128)) → n ≡ length (slice_range (map parts_of_value ns) (128 * block) (128 * block + 128))
+mapped-count ns block n e = e ∙ sym (ap (λ (z : List Parts). length z) (range-map parts_of_value ns (128 * block) (128 * block + 128)) ∙ length-map (slice_range ns (128 * block) (128 * block + 128)) parts_of_value)
 
 pub number-read : (ns : List ℤ) (block place n : ℕ) (buffer old : List ℤ) → place < n → n ≡ length (slice_range ns (128 * block) (128 * block + 128)) → buffer ≡ slice_range ns (128 * block) (128 * block + 128) ++ old → All (FitsSigned w64) ns
-    → parts_of_one (to_z w64 (of_z w64 (get_or buffer place (pos 0)))) ≡ get_or (map parts_of_one ns) (128 * block + place) none
+    → parts_of_value (to_z w64 (of_z w64 (get_or buffer place (pos 0)))) ≡ get_or (map parts_of_value ns) (128 * block + place) none
 number-read ns block place n buffer old l m e fit =
     let few = block-few ns block n m in
     let inside : 128 * block + place < length ns = omega (arith, m, length-take (128 * block + 128 - 128 * block) (drop (128 * block) ns), length-drop (128 * block) ns) in
     let v : get_or buffer place (pos 0) ≡ get_or ns (128 * block + place) (pos 0) =
     ap (λ z. get_or z place (pos 0)) e ∙ get_or_append_left (slice_range ns (128 * block) (128 * block + 128)) old (pos 0) place (subst (λ z. place < z) m l)
     ∙ get_or-take (128 * block + 128 - 128 * block) (drop (128 * block) ns) place (pos 0) (omega arith) ∙ get_or-drop (128 * block) ns place (pos 0) in
-    ap parts_of_one (ap (λ z. to_z w64 (of_z w64 z)) v ∙ to_z-of_z w64 (get_or ns (128 * block + place) (pos 0)) (All-get_or (FitsSigned w64) ns (128 * block + place) (pos 0) inside fit))
-    ∙ sym (get_or-map parts_of_one ns (128 * block + place) (pos 0) none inside)
-
--- ---- results that are there
-
-pub ok-there : {A E : Type 0} (P : A → Type 0) (r : Result A E) → IsOkAnd r P → (x : A) × (r ≡ Ok x)
-ok-there P (Ok x) h = (x, refl)
-ok-there P (Err e) h = absurd h
+    ap parts_of_value (ap (λ z. to_z w64 (of_z w64 z)) v ∙ to_z-of_z w64 (get_or ns (128 * block + place) (pos 0)) (All-get_or (FitsSigned w64) ns (128 * block + place) (pos 0) inside fit))
+    ∙ sym (get_or-map parts_of_value ns (128 * block + place) (pos 0) none inside)
 
 -- ---- a block that lies whole in a range
 
 pub gauge-told : (vs : List ℤ) (s : Summary) (n : ℤ) → FitsSigned w64 s.min → FitsSigned w64 s.max → FitsSigned w128 s.sum → n ≡ pos s.n → FitsSigned w128 n → 0 < length vs → IsSummary vs s
-    → record { 0 = Some (record { min = to_z w64 (of_z w64 s.min); max = to_z w64 (of_z w64 s.max); sum = to_z w128 (of_z w128 s.sum); count = to_z w128 (of_z w128 n) }) } ≡ fold_of no_gauge merge_gauges gauge_of_one (map parts_of_one vs)
+    → record { 0 = Some (record { min = to_z w64 (of_z w64 s.min); max = to_z w64 (of_z w64 s.max); sum = to_z w128 (of_z w128 s.sum); count = to_z w128 (of_z w128 n) }) } ≡ fold_of no_gauge merge_gauges gauge_of_one (map parts_of_value vs)
 unfolding gauge-of
 gauge-told vs s n a b d e f some h =
     ap (λ z. gauge-of z (to_z w64 (of_z w64 s.max)) (to_z w128 (of_z w128 s.sum)) (to_z w128 (of_z w128 n))) (to_z-of_z w64 s.min a)
@@ -205,16 +197,16 @@ gauge-told vs s n a b d e f some h =
     ∙ ap (gauge-of s.min s.max s.sum) (to_z-of_z w128 n f ∙ e)
     ∙ gauge-summary vs s some h
 
-pub whole-block : (vs : List ℤ) (block from to : ℕ) (g : Gauge) → to - from ≡ 128 → to ≤ 128 → 128 * block + to ≤ length vs → ((us : List ℤ) → 0 < length us → us ≡ slice_range vs (128 * block) (128 * block + 128) → g ≡ fold_of no_gauge merge_gauges gauge_of_one (map parts_of_one us))
-    → g ≡ fold_of no_gauge merge_gauges gauge_of_one (slice_range (map parts_of_one vs) (128 * block + from) (128 * block + to))
+pub whole-block : (vs : List ℤ) (block from to : ℕ) (g : Gauge) → to - from ≡ 128 → to ≤ 128 → 128 * block + to ≤ length vs → ((us : List ℤ) → 0 < length us → us ≡ slice_range vs (128 * block) (128 * block + 128) → g ≡ fold_of no_gauge merge_gauges gauge_of_one (map parts_of_value us))
+    → g ≡ fold_of no_gauge merge_gauges gauge_of_one (slice_range (map parts_of_value vs) (128 * block + from) (128 * block + to))
 whole-block vs block from to g span inside within h =
     let us = slice_range vs (128 * block) (128 * block + 128) in
     let some : 0 < length us = omega (arith, length-take (128 * block + 128 - 128 * block) (drop (128 * block) vs), length-drop (128 * block) vs) in
     let a : 128 * block ≡ 128 * block + from = omega arith in
     let b : 128 * block + 128 ≡ 128 * block + to = omega arith in
-    h us some refl ∙ ap (fold_of no_gauge merge_gauges gauge_of_one) (sym (slice-map parts_of_one vs (128 * block) (128 * block + 128)))
-    ∙ ap (λ z. fold_of no_gauge merge_gauges gauge_of_one (slice_range (map parts_of_one vs) z (128 * block + 128))) a
-    ∙ ap (λ z. fold_of no_gauge merge_gauges gauge_of_one (slice_range (map parts_of_one vs) (128 * block + from) z)) b
+    h us some refl ∙ ap (fold_of no_gauge merge_gauges gauge_of_one) (sym (range-map parts_of_value vs (128 * block) (128 * block + 128)))
+    ∙ ap (λ z. fold_of no_gauge merge_gauges gauge_of_one (slice_range (map parts_of_value vs) z (128 * block + 128))) a
+    ∙ ap (λ z. fold_of no_gauge merge_gauges gauge_of_one (slice_range (map parts_of_value vs) (128 * block + from) z)) b
 
 -- numbers of a range have 64 bits as all have
 pub fits-range : (ns : List ℤ) (from to : ℕ) → All (FitsSigned w64) ns → All (FitsSigned w64) (slice_range ns from to)

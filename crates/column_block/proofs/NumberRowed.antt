@@ -2,12 +2,13 @@
 use Rattle.std.proofs.Common.{◌≡◌, ℕ, ℤ, ◌-◌, List, [], ◌∷◌, ◌++◌, length, take, drop, sym, ◌∙◌, ap, subst, arith}
 use Rattle.std.specs.Prelude.{slice_range}
 use Rattle.std.proofs.lemmas.List.{take_all, take-append-drop}
+use Rattle.packed_lists.specs.Lists.{joined}
 use Rattle.column_block.specs.declared.kinds.Values.TheVariants.{Wholes}
 use Rattle.column_block.specs.Cutting.{IsShort}
 use Rattle.packed_lists.specs.Nums.{AreNums}
 use Rattle.row_cells.specs.Each.{Each}
 use Rattle.column_block.specs.Rules.{Ascend, IsNumberRow}
-use Rattle.column_block.specs.Spelling.{Spells, joined, lengths}
+use Rattle.column_block.specs.Spelling.{Spells, lengths}
 use Rattle.column_block.proofs.OneColumn.{same-wholes}
 
 pub all-rows : {A : Type 0} (xs : List A) (n : ℕ) → length xs ≡ n → slice_range xs 0 n ≡ xs
@@ -20,10 +21,6 @@ rows-keep (x ∷ lists) h k = (record { few = h.0; ascend = k.0 }, rows-keep lis
 pub rows-ascend : (lists : List (List ℤ)) → Each IsNumberRow lists → Each Ascend lists
 rows-ascend [] h = tt
 rows-ascend (x ∷ lists) h = (h.0.ascend, rows-ascend lists h.1)
-
-pub rows-short : (lists : List (List ℤ)) → Each IsNumberRow lists → Each IsShort lists
-rows-short [] h = tt
-rows-short (x ∷ lists) h = (h.0.few, rows-short lists h.1)
 
 pub spelled-rows : (lists own : List (List ℤ)) (front bytes : List ℕ) → ((nums : List ℕ) × AreNums (lengths own ∷ joined own ∷ []) nums × (bytes ≡ front ++ nums)) → front ≡ [] → own ≡ lists → Spells (Wholes lists) bytes
 spelled-rows lists own front bytes (nums, h, e) none same =

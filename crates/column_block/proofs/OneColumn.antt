@@ -1,6 +1,6 @@
 -- Values have one spelling, and a spelling tells its values and its end.
-use Rattle.std.proofs.Common.{◌≡◌, ℕ, ℤ, pos, ◌*◌, ◌<◌, ◌≤◌, Bool, List, [], ◌∷◌, ◌++◌, length, get_or, take, map, refl, sym, ◌∙◌, ap, subst, arith, inl, inr}
-use Rattle.std.specs.Prelude.{Option, unsigned_abs}
+use Rattle.std.proofs.Common.{◌≡◌, ℕ, ℤ, pos, ◌*◌, ◌<◌, ◌≤◌, Bool, List, [], ◌∷◌, ◌++◌, length, get_or, take, refl, sym, ◌∙◌, ap, subst, arith, inl, inr}
+use Rattle.std.specs.Prelude.{Option}
 use Rattle.std.specs.Int.{w64, to_be_bytes}
 use Rattle.std.specs.List.{concat, flat_map}
 use Rattle.std.specs.Option.{is_some}
@@ -17,13 +17,18 @@ use Rattle.column_block.specs.Presence.{presence, present, flags_of, flags_in, o
 use Rattle.row_cells.specs.Each.{Each}
 use Rattle.column_block.specs.Rules.{IsText, IsTextRow, IsColumnOf, KeepsRules, kind_of, rows_of}
 use Rattle.row_cells.specs.Dimensions.{text_bytes}
-use Rattle.column_block.specs.Spelling.{IsIn, IsAhead, IsTableOf, Spells, high, low, whole_of, joined, lengths, ordinal, ordinals, six_lists, table_bytes}
-use Rattle.packed_lists.specs.Lists.{AreAlike}
+use Rattle.column_block.specs.Cutting.{cut, total}
+use Rattle.column_block.specs.Spelling.{IsIn, IsAhead, IsTableOf, Spells, lengths, ordinal, ordinals, six_lists, table_bytes}
+use Rattle.packed_lists.specs.Lists.{joined}
 use Rattle.packed_lists.specs.Laws.Spelled.{one-each, same-each}
 use Rattle.packed_lists.specs.Laws.Fronts.{same-fronts, same-nums}
-use Rattle.column_block.specs.HalfLaws.{joined as halves-joined}
 use Rattle.column_block.proofs.Presences.{flags-are, length-present, spread-present}
-use Rattle.column_block.proofs.TextTables.{in-each, each-of, each-append, same-table, no-longer, same-ordinals, same-texts, same-many, more-first, same-eight}
+use Rattle.column_block.specs.EachLaws.{each-append}
+use Rattle.column_block.proofs.Among.{each-all, each-in}
+use Rattle.column_block.proofs.Cuts.{cut-joined, total-lengths}
+use Rattle.column_block.proofs.SixLists.{six-alike, six-tell}
+use Rattle.column_block.proofs.Tabling.{same-many, same-texts}
+use Rattle.column_block.proofs.TextTables.{same-table, no-longer, same-ordinals, more-first, same-eight}
 
 -- ---- one spelling
 
@@ -75,47 +80,6 @@ same-whole vs ws a b x y n (r, h, e) (s, k, f) q =
 
 -- ---- parts by their six lists
 
-pub same-head : {A : Type 0} (x y : A) (xs ys : List A) → x ∷ xs ≡ y ∷ ys → (x ≡ y) × (xs ≡ ys)
-same-head x y xs ys e = (cc, cc)
-
-same-number : (s t : ℤ) → high s ≡ high t → low s ≡ low t → s ≡ t
-same-number s t h l = sym (halves-joined s) ∙ ap (λ z. whole_of z (low s)) h ∙ ap (λ z. whole_of (high t) z) l ∙ halves-joined t
-
-same-parts : (ps qs : List Parts) → map (λ p. p.min) ps ≡ map (λ p. p.min) qs → map (λ p. p.max) ps ≡ map (λ p. p.max) qs
-    → map (λ p. high p.sum) ps ≡ map (λ p. high p.sum) qs → map (λ p. low p.sum) ps ≡ map (λ p. low p.sum) qs
-    → map (λ p. high p.count) ps ≡ map (λ p. high p.count) qs → map (λ p. low p.count) ps ≡ map (λ p. low p.count) qs → ps ≡ qs
-same-parts [] [] a b c d e f = refl
-same-parts [] (q ∷ qs) a b c d e f = cc
-same-parts (p ∷ ps) [] a b c d e f = cc
-same-parts (p ∷ ps) (q ∷ qs) a b c d e f =
-    let least = same-head p.min q.min (map (λ p. p.min) ps) (map (λ p. p.min) qs) a in
-    let greatest = same-head p.max q.max (map (λ p. p.max) ps) (map (λ p. p.max) qs) b in
-    let sum_high = same-head (high p.sum) (high q.sum) (map (λ p. high p.sum) ps) (map (λ p. high p.sum) qs) c in
-    let sum_low = same-head (low p.sum) (low q.sum) (map (λ p. low p.sum) ps) (map (λ p. low p.sum) qs) d in
-    let count_high = same-head (high p.count) (high q.count) (map (λ p. high p.count) ps) (map (λ p. high p.count) qs) e in
-    let count_low = same-head (low p.count) (low q.count) (map (λ p. low p.count) ps) (map (λ p. low p.count) qs) f in
-    let first : p ≡ q = made p q least.0 greatest.0 (same-number p.sum q.sum sum_high.0 sum_low.0) (same-number p.count q.count count_high.0 count_low.0) in
-    ap (λ z. z ∷ ps) first ∙ ap (λ z. q ∷ z) (same-parts ps qs least.1 greatest.1 sum_high.1 sum_low.1 count_high.1 count_low.1)
-  where
-    made : (v w : Parts) → v.min ≡ w.min → v.max ≡ w.max → v.sum ≡ w.sum → v.count ≡ w.count → v ≡ w
-    made v w g h i j =
-        ap (λ z. record { min = z; max = v.max; sum = v.sum; count = v.count }) g
-        ∙ ap (λ z. record { min = w.min; max = z; sum = v.sum; count = v.count }) h
-        ∙ ap (λ z. record { min = w.min; max = w.max; sum = z; count = v.count }) i
-        ∙ ap (λ z. record { min = w.min; max = w.max; sum = w.sum; count = z }) j
-
-six-alike : (ps qs : List Parts) → length ps ≡ length qs → AreAlike (six_lists ps) (six_lists qs)
-six-alike ps qs n = (each (λ p. p.min), (each (λ p. p.max), (each (λ p. high p.sum), (each (λ p. low p.sum), (each (λ p. high p.count), (each (λ p. low p.count), tt))))))
-  where
-    each : (f : Parts → ℤ) → length (map f ps) ≡ length (map f qs)
-    each f = length-map ps f ∙ n ∙ sym (length-map qs f)
-
-six-tell : (ps qs : List Parts) → six_lists ps ≡ six_lists qs → ps ≡ qs
-six-tell ps qs e = same-parts ps qs (at 0) (at 1) (at 2) (at 3) (at 4) (at 5)
-  where
-    at : (k : ℕ) → get_or (six_lists ps) k [] ≡ get_or (six_lists qs) k []
-    at k = ap (λ (z : List (List ℤ)). get_or z k []) e
-
 same-parts-column : (vs ws : List (Option Parts)) (a b x y : List ℕ) → length vs ≡ length ws → Spells (PartsOf vs) a → Spells (PartsOf ws) b → a ++ x ≡ b ++ y → (vs ≡ ws) × (a ≡ b) × (x ≡ y)
 same-parts-column vs ws a b x y n (r, h, e) (s, k, f) q =
     let front = behind vs ws a b r s x y n e f q in
@@ -125,30 +89,11 @@ same-parts-column vs ws a b x y n (r, h, e) (s, k, f) q =
 -- ---- lists by their lengths and items
 
 joined-length : {A : Type 0} (xs ys : List (List A)) → lengths xs ≡ lengths ys → length (joined xs) ≡ length (joined ys)
-joined-length [] [] e = refl
-joined-length [] (y ∷ ys) e = absurd (none (lengths ys) (pos (length y)) e)
-  where
-    none : (ns : List ℤ) (n : ℤ) → [] ≡ n ∷ ns → ⊥
-    none ns n f = cc
-joined-length (x ∷ xs) [] e = absurd (none (lengths xs) (pos (length x)) e)
-  where
-    none : (ns : List ℤ) (n : ℤ) → n ∷ ns ≡ [] → ⊥
-    none ns n f = cc
-joined-length (x ∷ xs) (y ∷ ys) e =
-    let s = same-head (pos (length x)) (pos (length y)) (lengths xs) (lengths ys) e in
-    let n : length x ≡ length y = ap unsigned_abs s.0 in
-    omega (arith, n, length-append x (joined xs), length-append y (joined ys), joined-length xs ys s.1)
+joined-length xs ys same = sym (total-lengths xs) ∙ ap total same ∙ total-lengths ys
 
 -- items are cut by the lengths
 same-cut : {A : Type 0} (xs ys : List (List A)) → lengths xs ≡ lengths ys → joined xs ≡ joined ys → xs ≡ ys
-same-cut [] [] e f = refl
-same-cut [] (y ∷ ys) e f = cc
-same-cut (x ∷ xs) [] e f = cc
-same-cut (x ∷ xs) (y ∷ ys) e f =
-    let s = same-head (pos (length x)) (pos (length y)) (lengths xs) (lengths ys) e in
-    let n : length x ≡ length y = ap unsigned_abs s.0 in
-    let cut = same-fronts x y (joined xs) (joined ys) n f in
-    ap (λ z. z ∷ xs) cut.0 ∙ ap (λ z. y ∷ z) (same-cut xs ys s.1 cut.1)
+same-cut xs ys same all = sym (cut-joined xs) ∙ ap (λ z. cut z (joined xs)) same ∙ ap (cut (lengths ys)) all ∙ cut-joined ys
 
 -- a list whose length is known, and one whose length it tells
 two-lists : (ls ms us ws : List ℤ) (a b x y : List ℕ) → length ls ≡ length ms → (ls ≡ ms → length us ≡ length ws) → AreNums (ls ∷ us ∷ []) a → AreNums (ms ∷ ws ∷ []) b → a ++ x ≡ b ++ y
@@ -177,14 +122,14 @@ joined-few : (lists : List (List (List ℕ))) → Each IsTextRow lists → lengt
 joined-few [] h = omega arith
 joined-few (ts ∷ lists) h = omega (arith, h.0.few, length-append ts (joined lists), joined-few lists h.1)
 
-table-texts : (ts : List (List ℕ)) (lists : List (List (List ℕ))) → IsTableOf ts lists → Each IsTextRow lists → Each IsText ts
-table-texts ts lists t h = each-of IsText ts (λ u i. in-each IsText u (joined lists) ((t.occur u).0 i) (joined-texts lists h))
+pub texts-each : (ts : List (List ℕ)) (lists : List (List (List ℕ))) → IsTableOf ts lists → Each IsTextRow lists → Each IsText ts
+texts-each ts lists t h = each-all IsText ts (λ u i. each-in IsText (joined lists) u (joined-texts lists h) ((t.occur u).0 i))
 
 table-few : (ts : List (List ℕ)) (lists : List (List (List ℕ))) → IsTableOf ts lists → Each IsTextRow lists → length ts ≤ longest_list * length lists
 table-few ts lists t h = omega (arith, no-longer ts (joined lists) t.ascend (λ u i. (t.occur u).0 i), joined-few lists h)
 
 in-table : (ts : List (List ℕ)) (lists : List (List (List ℕ))) → IsTableOf ts lists → Each (λ t. IsIn t ts) (joined lists)
-in-table ts lists t = each-of (λ u. IsIn u ts) (joined lists) (λ u i. (t.occur u).1 i)
+in-table ts lists t = each-all (λ u. IsIn u ts) (joined lists) (λ u i. (t.occur u).1 i)
 
 -- 128 rows or more begin with a block of 128
 nums-first : (vs : List ℤ) (nums x : List ℕ) → IsNums vs nums → 128 ≤ length vs → get_or (nums ++ x) 0 0 ≡ 128
@@ -198,7 +143,7 @@ nums-first vs nums x (b ∷ bs, h, e) many =
 not-fewer : (ts us : List (List ℕ)) (vs : List ℤ) (nums x y : List ℕ) → Each IsText ts → Each IsText us → IsNums vs nums → 128 ≤ length vs
     → flat_map text_bytes ts ++ (nums ++ x) ≡ flat_map text_bytes us ++ y → length ts < length us → ⊥
 not-fewer ts us vs nums x y h k g many e fewer =
-    let rest = same-texts ts us (nums ++ x) y (omega (arith, fewer)) h k e in
+    let rest = same-texts ts us (nums ++ x) y h k (omega (arith, fewer)) e in
     absurd (omega (arith, nums-first vs nums x g many, ap (λ (z : List ℕ). get_or z 0 0) rest.1, more-first us (length ts) y fewer k))
 
 -- a table's bytes tell how many texts it has, by their number or, where so many would be cut, by what follows
@@ -221,8 +166,8 @@ same-words : (vs ws : List (List (List ℕ))) (a b x y : List ℕ) → length vs
 same-words vs ws a b x y n rules_v rules_w (ts, t, (r, (c, r2, g, h, e2), e)) (us, u, (s, (d, s2, k, l, f2), f)) q =
     let split = same-fronts (to_be_bytes w64 (length ts)) (to_be_bytes w64 (length us)) (flat_map text_bytes ts ++ (r ++ x)) (flat_map text_bytes us ++ (s ++ y)) refl
     (sym (opened ts r x) ∙ ap (λ z. z ++ x) (sym e) ∙ q ∙ ap (λ z. z ++ y) f ∙ opened us s y) in
-    let texts_t = table-texts ts vs t rules_v in
-    let texts_u = table-texts us ws u rules_w in
+    let texts_t = texts-each ts vs t rules_v in
+    let texts_u = texts-each us ws u rules_w in
     let many : length ts ≡ length us = as-many-texts ts us (length vs) (lengths vs) (lengths ws) c d (r2 ++ x) (s2 ++ y) texts_t texts_u
     (table-few ts vs t rules_v) (subst (λ z. length us ≤ longest_list * z) (sym n) (table-few us ws u rules_w))
     (length-map vs (λ z. pos (length z))) (length-map ws (λ z. pos (length z)) ∙ sym n) g k split.0

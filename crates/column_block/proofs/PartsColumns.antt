@@ -1,9 +1,9 @@
 -- Columns of parts.
-use Rattle.std.proofs.Common.{◌≡◌, ℕ, ℤ, ◌+◌, ◌*◌, ◌<◌, ◌≤◌, ◌^◌, Bool, true, false, List, [], ◌++◌, length, take, drop, map, refl, sym, ◌∙◌, ap, subst, arith}
+use Rattle.std.proofs.Common.{◌≡◌, ℕ, ◌+◌, ◌<◌, ◌^◌, Bool, true, false, List, [], ◌++◌, length, take, drop, map, refl, sym, ◌∙◌, ap, subst, arith}
 use Rattle.std.specs.Prelude.{Option}
 use Rattle.std.specs.Int.{div_ceil}
 use Rattle.std.specs.Option.{is_some}
-use Rattle.std.proofs.lemmas.List.{length-map, length-append, length-drop, append_assoc}
+use Rattle.std.proofs.lemmas.List.{length-map, append_assoc}
 use Rattle.fold_law.specs.declared.measures.Parts.{Parts}
 use Rattle.column_block.specs.declared.kinds.Values.TheVariants.{Parts as PartsOf}
 use Rattle.packed_lists.specs.Nums.{AreNums}
@@ -12,13 +12,13 @@ use Rattle.column_block.specs.HeldParts.{IsPartsColumn, AreListsFound, first_par
 use Rattle.column_block.specs.Presence.{presence, present, flags_of, flags_in, ones, spread, AreCounts}
 use Rattle.row_cells.specs.Each.{Each}
 use Rattle.column_block.specs.Rules.{AreParts}
-use Rattle.column_block.specs.Spelling.{Spells, six_lists, high, low}
-use Rattle.column_block.proofs.Aheads.{flags-known, flags-spread, present-spread, presence-size}
-use Rattle.packed_lists.specs.Lists.{AreAlike}
+use Rattle.column_block.specs.Spelling.{Spells, six_lists}
+use Rattle.column_block.proofs.Aheads.{flags-known, flags-spread, found-behind, present-spread, presence-size}
 use Rattle.packed_lists.specs.Laws.Spelled.{same-each}
-use Rattle.packed_lists.specs.Laws.Fronts.{take-front, drop-front}
-use Rattle.column_block.proofs.Presences.{length-presence, flags-are, spread-present, length-present, length-flags, no-ones}
-use Rattle.column_block.proofs.SixLists.{lists-are, first-again}
+use Rattle.packed_lists.specs.Laws.Fronts.{drop-front}
+use Rattle.column_block.proofs.Presences.{flags-are, spread-present, length-present, length-flags, no-ones}
+use Rattle.packed_lists.specs.Laws.Listed.{lists-are}
+use Rattle.column_block.proofs.SixLists.{first-again, six-alike, six-tell}
 
 -- the rows of a column, by what it keeps
 pub parts-are : (rows : ℕ) (bytes : List ℕ) (places : List (List ℕ)) (counts : List ℕ) (vs : List (Option Parts)) → IsPartsColumn rows bytes places counts vs → rows_held rows bytes places ≡ vs
@@ -46,21 +46,7 @@ parts-built vs old mid now again places counts parts lent rules few a b d e (num
       counted = subst (λ z. AreCounts (length vs) z counts) g k;
     }
 
-pub parts-long : (vs : List (Option Parts)) (old mid now again : List ℕ) (lent : List Parts) → old ≡ [] → mid ≡ old ++ presence (flags_of vs) → ((rest : List ℕ) × AreNums (six_lists lent) rest × (now ≡ mid ++ rest)) → again ≡ now
-    → length vs ≤ 8 * length again
-parts-long vs old mid now again lent a b (nums, h, f) g =
-    let e : again ≡ presence (flags_of vs) ++ nums = g ∙ f ∙ ap (λ z. z ++ nums) (b ∙ ap (λ z. z ++ presence (flags_of vs)) a) in
-    omega (arith, ap (λ (z : List ℕ). length z) e, length-append (presence (flags_of vs)) nums, length-presence (flags_of vs), length-map vs is_some)
-
 -- ---- reading
-
--- lists that were found behind a front
-lists-behind : (bytes front rest : List ℕ) (size end count : ℕ) (places : List (List ℕ)) (lists : List (List ℤ)) → bytes ≡ front ++ rest → size ≡ length front → (h : AreListsFound bytes size end places count lists) → take end bytes ≡ front ++ h.nums
-lists-behind bytes front rest size end count places lists e n h =
-    let whole : bytes ≡ (front ++ h.nums) ++ drop end bytes =
-    e ∙ ap (λ z. front ++ z) (sym (drop-front bytes front rest size e n) ∙ h.behind) ∙ sym (append_assoc front h.nums (drop end bytes)) in
-    let m : end ≡ length (front ++ h.nums) = omega (arith, ap (λ (z : List ℕ). length z) whole, length-append (front ++ h.nums) (drop end bytes), length-drop end bytes, h.within) in
-    take-front bytes (front ++ h.nums) (drop end bytes) end whole m
 
 pub parts-held : (rows size end count : ℕ) (bytes mine lent : List ℕ) (places : List (List ℕ)) (counts : List ℕ) → rows < 2 ^ 32 → ((rest : List ℕ) × (bytes ≡ presence (flags_in rows bytes) ++ rest)) → size ≡ div_ceil rows 8
     → ((ps : List Parts) × AreListsFound bytes size end places count (six_lists ps) × (length ps ≡ count)) → ones (flags_in rows bytes) ≡ ones (flags_in 0 bytes) + count
@@ -79,17 +65,14 @@ parts-held rows size end count bytes mine lent places counts few (rest, e) s (ps
       spelled = (
         h.nums,
         subst (λ z. AreNums (six_lists z) h.nums) (sym p) h.spelled,
-        lists-behind bytes (presence fs) rest size end count places (six_lists ps) e (s ∙ presence-size rows bytes) h ∙ ap (λ z. presence z ++ h.nums) (sym f),
+        found-behind bytes (presence fs) h.nums rest size end e (s ∙ presence-size rows bytes) h.behind h.within ∙ ap (λ z. presence z ++ h.nums) (sym f),
       );
       placed = subst (λ z. ArePlaced (take end bytes) places (six_lists z)) (sym p) h.placed;
       counted = subst (λ z. AreCounts rows z counts) (l ∙ m) k;
     } in
     (vs, subst (λ z. IsPartsColumn rows z places counts vs) (sym m) is)
 
--- bytes that begin with a column begin with its bits, and then with its lists
-pub begins-bits : (vs : List (Option Parts)) (bytes spelling rest : List ℕ) → Spells (PartsOf vs) spelling → bytes ≡ spelling ++ rest → (more : List ℕ) × (bytes ≡ presence (flags_of vs) ++ more)
-begins-bits vs bytes spelling rest (nums, h, e) f = (nums ++ rest, f ∙ ap (λ z. z ++ rest) e ∙ append_assoc (presence (flags_of vs)) nums rest)
-
+-- bytes that begin with a column have its lists behind its bits
 pub begins-parts : (rows size : ℕ) (vs : List (Option Parts)) (bytes spelling rest : List ℕ) → length vs ≡ rows → size ≡ div_ceil rows 8 → Spells (PartsOf vs) spelling → bytes ≡ spelling ++ rest
     → (nums more : List ℕ) × (length (present vs) ≡ ones (flags_in rows bytes)) × AreNums (six_lists (present vs)) nums × (drop size bytes ≡ nums ++ more)
 begins-parts rows size vs bytes spelling rest n s (nums, h, e) f =
@@ -97,18 +80,10 @@ begins-parts rows size vs bytes spelling rest n s (nums, h, e) f =
     let fs : flags_in rows bytes ≡ flags_of vs = ap (λ z. flags_in z bytes) (sym (length-map vs is_some ∙ n)) ∙ flags-are (flags_of vs) bytes (nums ++ rest) whole in
     (nums, rest, length-present vs ∙ ap ones (sym fs), h, drop-front bytes (presence (flags_of vs)) (nums ++ rest) size whole (s ∙ presence-size rows bytes ∙ ap (λ z. length (presence z)) fs))
 
-alike : (ps qs : List Parts) → length ps ≡ length qs → AreAlike (six_lists ps) (six_lists qs)
-alike ps qs n =
-    (long ps qs (λ p. p.min) n, (long ps qs (λ p. p.max) n, (long ps qs (λ p. high p.sum) n, (long ps qs (λ p. low p.sum) n, (long ps qs (λ p. high p.count) n, (long ps qs (λ p. low p.count) n, tt))))))
-  where
-    long : (us ws : List Parts) (g : Parts → ℤ) → length us ≡ length ws → length (map g us) ≡ length (map g ws)
-    long us ws g m = length-map us g ∙ m ∙ sym (length-map ws g)
-
 -- what was found is what the bytes begin with
 pub found-parts : (bytes : List ℕ) (size end count : ℕ) (places : List (List ℕ)) (ps qs : List Parts) (nums more : List ℕ) → AreListsFound bytes size end places count (six_lists ps) → length ps ≡ length qs → AreNums (six_lists qs) nums → drop size bytes ≡ nums ++ more → ps ≡ qs
 found-parts bytes size end count places ps qs nums more h n k e =
-    let same = (same-each (six_lists ps) (six_lists qs) h.nums nums (drop end bytes) more (alike ps qs n) h.spelled k (sym h.behind ∙ e)).0 in
-    sym (first-again ps) ∙ ap (λ z. first_parts z (six_lists ps)) n ∙ ap (first_parts (length qs)) same ∙ first-again qs
+    six-tell ps qs (same-each (six_lists ps) (six_lists qs) h.nums nums (drop end bytes) more (six-alike ps qs n) h.spelled k (sym h.behind ∙ e)).0
 
 -- what was looked at by places that were lent
 pub kept-lent : (bytes : List ℕ) (places lent : List (List ℕ)) → lent ≡ places → ((ps : List Parts) → ArePlaced bytes lent (six_lists ps) → Each AreParts ps) → (ps : List Parts) → ArePlaced bytes places (six_lists ps) → Each AreParts ps

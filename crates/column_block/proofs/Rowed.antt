@@ -6,9 +6,10 @@ use Rattle.std.proofs.Math.Seq.{take-add}
 use Rattle.packed_lists.specs.Nums.{IsNums, AreNums}
 use Rattle.packed_lists.specs.Decoded.{AreBlocksAt, values_at}
 use Rattle.packed_lists.specs.Found.{IsFound}
+use Rattle.packed_lists.specs.Lists.{joined}
 use Rattle.column_block.specs.Cutting.{cut, total, IsSize, IsShort, AreStarts, AreRows, lists_at}
 use Rattle.row_cells.specs.Each.{Each}
-use Rattle.column_block.specs.Spelling.{joined, lengths}
+use Rattle.column_block.specs.Spelling.{lengths}
 use Rattle.packed_lists.specs.Laws.Decodes.{values_at-is}
 use Rattle.packed_lists.specs.Laws.Fronts.{take-front, drop-front}
 use Rattle.packed_lists.specs.Laws.Placing.{blocks-before}

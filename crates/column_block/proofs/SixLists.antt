@@ -1,29 +1,27 @@
 -- Lists of as many numbers each, and parts by six of them.
-use Rattle.std.proofs.Common.{◌≡◌, ℕ, ℤ, pos, suc, zero, ◌+◌, ◌-◌, ◌*◌, ◌<◌, ◌≤◌, ◌^◌, List, [], ◌∷◌, ◌++◌, length, get_or, take, drop, map, to_z, of_z, set, refl, sym, ◌∙◌, ap, subst, arith}
-use Rattle.std.specs.Prelude.{FitsSigned, slice_range, ◌+ℤ◌, ◌*ℤ◌}
-use Rattle.std.specs.Int.{w64, w128, cast_unsigned}
-use Rattle.std.proofs.lemmas.Int.{ints, to_z-of_z}
+use Rattle.std.proofs.Common.{◌≡◌, ℕ, ℤ, pos, ◌+◌, ◌-◌, ◌*◌, ◌<◌, ◌≤◌, List, [], ◌∷◌, ◌++◌, length, get_or, take, drop, map, to_z, of_z, set, refl, sym, ◌∙◌, ap, subst, arith}
+use Rattle.std.specs.Prelude.{FitsSigned, slice_range}
+use Rattle.std.specs.Int.{w64, w128}
+use Rattle.std.proofs.lemmas.Int.{to_z-of_z}
 use Rattle.std.specs.List.{All}
-use Rattle.std.proofs.lemmas.List.{append_assoc, length-append, length-map, length-take, length-drop, ext_get_or, map-append, get_or-map, get_or_append_left, get_or-take, get_or-drop, take_more, take_more_set, take_all, take-append-drop}
+use Rattle.std.proofs.lemmas.List.{append_assoc, length-append, length-map, length-take, length-drop, ext_get_or, map-append, get_or-map, get_or_append_left, get_or_default, get_or-take, get_or-drop, take_more, take_more_set, take_all, take-append-drop}
 use Rattle.std.proofs.lemmas.List.Elements.{All-get_or, All-nil, All-append}
 use Rattle.std.proofs.lemmas.List.FromFn.{get_or-map-range_with_len, length-map-range_with_len}
 use Rattle.std.proofs.Math.Seq.{take-add}
 use Rattle.fold_law.specs.declared.measures.Parts.{Parts}
 use Rattle.packed_lists.specs.Nums.{IsNums, AreNums}
-use Rattle.packed_lists.specs.Decoded.{IsBlockAt, AreBlocksAt, ArePlaced, values_at}
+use Rattle.packed_lists.specs.Decoded.{IsBlockAt, AreBlocksAt, ArePlaced}
 use Rattle.packed_lists.specs.Found.{IsFound}
+use Rattle.packed_lists.specs.Lists.{AreAlike}
+use Rattle.packed_lists.specs.Laws.Listed.{places-lists, placed-at, lists-are}
+use Rattle.column_block.specs.EachLaws.{each-append, each-at}
 use Rattle.column_block.specs.HeldParts.{BeginsLists, AreListsAhead, number_at, parts_at, first_parts}
 use Rattle.row_cells.specs.Each.{Each}
 use Rattle.column_block.specs.Spelling.{six_lists, high, low, whole_of}
-use Rattle.packed_lists.specs.Laws.Decodes.{values_at-is}
 use Rattle.packed_lists.specs.Laws.Spelled.{nums-push, placed-before, placed-push}
 use Rattle.packed_lists.specs.Laws.Fronts.{same-nums, nums-fit}
-use Rattle.column_block.specs.HalfLaws.{joined, low-again}
+use Rattle.column_block.specs.HalfLaws.{joined, high-again, low-again}
 use Rattle.packed_lists.specs.Laws.Placing.{places-count, block-range, part-of-block}
-
-pub each-push : {A : Type 0} (P : A → Type 0) (xs : List A) (x : A) → Each P xs → P x → Each P (xs ++ x ∷ [])
-each-push P [] x h p = (p, tt)
-each-push P (y ∷ ys) x h p = (h.0, each-push P ys x h.1 p)
 
 -- what a place has that no parts were put in
 abbrev pub none : Parts
@@ -68,7 +66,7 @@ lists-more bytes from end to places count done all p vs (lists, h, n, ahead) mor
       record {
         nums = h.nums ++ f.nums;
         spelled = nums-push lists vs h.nums f.nums h.spelled f.spelled;
-        each = each-push (λ v. length v ≡ count) lists vs h.each m;
+        each = each-append (λ v. length v ≡ count) lists (vs ∷ []) h.each (m, tt);
         order = omega (arith, h.order, f.order);
         within = f.within;
         behind = h.behind ∙ ap (λ z. h.nums ++ z) f.behind ∙ sym (append_assoc h.nums f.nums (drop to bytes));
@@ -80,51 +78,15 @@ lists-more bytes from end to places count done all p vs (lists, h, n, ahead) mor
           subst (λ z. BeginsLists z count (drop to bytes)) z (begins-behind (all - done) count (drop end bytes) vs f.nums (drop to bytes) (ahead b) (omega arith) m f.spelled f.behind)),
     )
 
--- ---- lists by their places
-
-pub places-lists : (bytes : List ℕ) (places : List (List ℕ)) (lists : List (List ℤ)) → ArePlaced bytes places lists → length places ≡ length lists
-places-lists bytes [] [] h = refl
-places-lists bytes [] (vs ∷ lists) h = absurd h
-places-lists bytes (p ∷ ps) [] h = absurd h
-places-lists bytes (p ∷ ps) (vs ∷ lists) h = ap suc (places-lists bytes ps lists h.1)
-
-pub placed-at : (bytes : List ℕ) (places : List (List ℕ)) (lists : List (List ℤ)) (k : ℕ) → ArePlaced bytes places lists → k < length lists → AreBlocksAt bytes (get_or places k []) (get_or lists k [])
-placed-at bytes [] [] k h l = absurd (omega arith)
-placed-at bytes [] (vs ∷ lists) k h l = absurd h
-placed-at bytes (p ∷ ps) [] k h l = absurd h
-placed-at bytes (p ∷ ps) (vs ∷ lists) zero h l = h.0
-placed-at bytes (p ∷ ps) (vs ∷ lists) (suc k) h l = placed-at bytes ps lists k h.1 (omega arith)
-
-pub lists-are : (bytes : List ℕ) (places : List (List ℕ)) (lists : List (List ℤ)) → ArePlaced bytes places lists → map (values_at bytes) places ≡ lists
-lists-are bytes [] [] h = refl
-lists-are bytes [] (vs ∷ lists) h = absurd h
-lists-are bytes (p ∷ ps) [] h = absurd h
-lists-are bytes (p ∷ ps) (vs ∷ lists) h = ap (λ z. z ∷ map (values_at bytes) ps) (values_at-is bytes p vs h.0) ∙ ap (λ z. vs ∷ z) (lists-are bytes ps lists h.1)
-
 -- ---- parts by six lists
 
 pub six-long : (ps : List Parts) → Each (λ (vs : List ℤ). length vs ≡ length ps) (six_lists ps)
 six-long ps =
     (length-map ps (λ p. p.min), (length-map ps (λ p. p.max), (length-map ps (λ p. high p.sum), (length-map ps (λ p. low p.sum), (length-map ps (λ p. high p.count), (length-map ps (λ p. low p.count), tt))))))
 
-pub each-at : {A : Type 0} (P : A → Type 0) (xs : List A) (k : ℕ) (d : A) → Each P xs → k < length xs → P (get_or xs k d)
-each-at P [] k d h l = absurd (omega arith)
-each-at P (x ∷ xs) zero d h l = h.0
-each-at P (x ∷ xs) (suc k) d h l = each-at P xs k d h.1 (omega arith)
-
 -- a number of each list, by the parts at its place
 pub pick-at : (g : Parts → ℤ) (ps : List Parts) (k : ℕ) (d : Parts) → k < length ps → get_or (map g ps) k (pos 0) ≡ g (get_or ps k d)
 pick-at g ps k d h = get_or-map g ps k d (pos 0) h
-
--- halves of the number that they make
-high-again : (h l : ℤ) → FitsSigned w64 l → high (whole_of h l) ≡ h
-high-again h l f =
-    let same : (high (whole_of h l) *ℤ pos (2 ^ 64)) +ℤ pos (cast_unsigned w64 l) ≡ whole_of h l =
-    ap (λ z. (high (whole_of h l) *ℤ pos (2 ^ 64)) +ℤ pos (cast_unsigned w64 z)) (sym (low-again h l f)) ∙ joined (whole_of h l) in
-    fewer (high (whole_of h l)) h (cast_unsigned w64 l) same
-  where
-    fewer : (a b : ℤ) (u : ℕ) → (a *ℤ pos (2 ^ 64)) +ℤ pos u ≡ (b *ℤ pos (2 ^ 64)) +ℤ pos u → a ≡ b
-    fewer a b u e = omega (arith, ints, e)
 
 made : ℤ → ℤ → ℤ → ℤ → Parts
 made a b c d = record { min = a; max = b; sum = c; count = d }
@@ -149,6 +111,18 @@ unfolding first_parts
 first-again ps = ext_get_or none (first_parts (length ps) (six_lists ps)) ps (length-map-range_with_len (parts_at (six_lists ps)) 0 (length ps))
     (λ k h. (let l : k < length ps = subst (λ z. k < z) (length-map-range_with_len (parts_at (six_lists ps)) 0 (length ps)) h in
     get_or-map-range_with_len (parts_at (six_lists ps)) 0 (length ps) k k none l (omega arith) ∙ parts-made ps k none _ _ _ _ _ _ l refl refl refl refl refl refl))
+
+-- six lists tell their parts
+pub six-tell : (ps qs : List Parts) → six_lists ps ≡ six_lists qs → ps ≡ qs
+six-tell ps qs same =
+    let n : length ps ≡ length qs = sym (length-map ps (λ p. p.min)) ∙ ap (λ (z : List (List ℤ)). length (get_or z 0 [])) same ∙ length-map qs (λ p. p.min) in
+    sym (first-again ps) ∙ ap (λ z. first_parts z (six_lists ps)) n ∙ ap (first_parts (length qs)) same ∙ first-again qs
+
+pub six-alike : (ps qs : List Parts) → length ps ≡ length qs → AreAlike (six_lists ps) (six_lists qs)
+six-alike ps qs n = (each (λ p. p.min), (each (λ p. p.max), (each (λ p. high p.sum), (each (λ p. low p.sum), (each (λ p. high p.count), (each (λ p. low p.count), tt))))))
+  where
+    each : (f : Parts → ℤ) → length (map f ps) ≡ length (map f qs)
+    each f = length-map ps f ∙ n ∙ sym (length-map qs f)
 
 -- one list of the parts of some lists
 pub list-again : (g : Parts → ℤ) (lists : List (List ℤ)) (count : ℕ) (vs : List ℤ) → length vs ≡ count → ((k : ℕ) → k < count → g (parts_at lists k) ≡ get_or vs k (pos 0)) → map g (first_parts count lists) ≡ vs
@@ -192,16 +166,11 @@ six-again (a ∷ b ∷ c ∷ d ∷ e ∷ f ∷ g ∷ more) nums count n each h =
 pub list-blocks : (bytes : List ℕ) (places : List (List ℕ)) (ps : List Parts) (k : ℕ) (lent p : List ℕ) → ArePlaced bytes places (six_lists ps) → k < 6 → p ≡ get_or places k p → lent ≡ p → AreBlocksAt bytes lent (get_or (six_lists ps) k [])
 list-blocks bytes places ps k lent p h l e f =
     let n : length places ≡ 6 = places-lists bytes places (six_lists ps) h in
-    subst (λ z. AreBlocksAt bytes z (get_or (six_lists ps) k [])) (sym (f ∙ e ∙ get-any places k p [] (omega (arith, n)))) (placed-at bytes places (six_lists ps) k h l)
-  where
-    get-any : {A : Type 0} (xs : List A) (i : ℕ) (x y : A) → i < length xs → get_or xs i x ≡ get_or xs i y
-    get-any [] i x y m = absurd (omega arith)
-    get-any (z ∷ zs) zero x y m = refl
-    get-any (z ∷ zs) (suc i) x y m = get-any zs i x y (omega arith)
+    subst (λ z. AreBlocksAt bytes z (get_or (six_lists ps) k [])) (sym (f ∙ e ∙ get_or_default places k p [] (omega (arith, n)))) (placed-at bytes places (six_lists ps) k h l)
 
 -- its length
 pub list-long : (ps : List Parts) (k : ℕ) → k < 6 → length (get_or (six_lists ps) k []) ≡ length ps
-list-long ps k l = each-at (λ (vs : List ℤ). length vs ≡ length ps) (six_lists ps) k [] (six-long ps) l
+list-long ps k l = each-at (λ (vs : List ℤ). length vs ≡ length ps) (six_lists ps) k [] l (six-long ps)
 
 pub list-block-within : (bytes : List ℕ) (places : List (List ℕ)) (ps : List Parts) (k block : ℕ) (lent p : List ℕ) → ArePlaced bytes places (six_lists ps) → k < 6 → 128 * block < length ps → p ≡ get_or places k p → lent ≡ p → block < length lent
 list-block-within bytes places ps k block lent p h l within e f =
@@ -237,10 +206,6 @@ map-all f xs k ys h e = e ∙ ap (map f) (take_all k xs h)
 
 pub each-as-long : (ps : List Parts) (count : ℕ) → length ps ≡ count → Each (λ (vs : List ℤ). length vs ≡ count) (six_lists ps)
 each-as-long ps count n = subst (λ z. Each (λ (vs : List ℤ). length vs ≡ z) (six_lists ps)) n (six-long ps)
-
--- one item more that has a property
-pub each-more : {A : Type 0} (P : A → Type 0) (xs : List A) (k : ℕ) (d : A) → k < length xs → Each P (take k xs) → P (get_or xs k d) → Each P (take (k + 1) xs)
-each-more P xs k d h e p = subst (Each P) (sym (take_more xs k d h)) (each-push P (take k xs) (get_or xs k d) e p)
 
 -- ---- reading the parts of a block
 
@@ -304,36 +269,16 @@ part-read ps xs block from to order inside e =
 
 -- ---- properties of all parts
 
-pub each-append : {A : Type 0} (P : A → Type 0) (xs ys : List A) → Each P xs → Each P ys → Each P (xs ++ ys)
-each-append P [] ys h k = k
-each-append P (x ∷ xs) ys h k = (h.0, each-append P xs ys h.1 k)
-
-pub each-take : {A : Type 0} (P : A → Type 0) (n : ℕ) (xs : List A) → Each P xs → Each P (take n xs)
-each-take P zero xs h = tt
-each-take P (suc n) [] h = tt
-each-take P (suc n) (x ∷ xs) h = (h.0, each-take P n xs h.1)
-
-pub each-drop : {A : Type 0} (P : A → Type 0) (n : ℕ) (xs : List A) → Each P xs → Each P (drop n xs)
-each-drop P zero xs h = h
-each-drop P (suc n) [] h = tt
-each-drop P (suc n) (x ∷ xs) h = each-drop P n xs h.1
-
 -- the parts of a block more
 pub each-block : {A : Type 0} (P : A → Type 0) (ps xs : List A) (block : ℕ) → Each P (take (128 * block) ps) → Each P xs → xs ≡ slice_range ps (128 * block) (128 * block + 128) → Each P (take (128 * (block + 1)) ps)
 each-block P ps xs block h k e =
     let n : 128 * block + 128 ≡ 128 * (block + 1) = omega arith in
     subst (Each P) (sym (take-add (128 * block) 128 ps) ∙ ap (λ z. take z ps) n) (each-append P (take (128 * block) ps) (take 128 (drop (128 * block) ps)) h (subst (Each P) (e ∙ sym (block-range ps block)) k))
 
-pub each-range : {A : Type 0} (P : A → Type 0) (ps : List A) (from to : ℕ) → Each P ps → Each P (slice_range ps from to)
-each-range P ps from to h = each-take P (to - from) (drop from ps) (each-drop P from ps h)
-
 -- ---- places tell their parts
 
 pub one-parts : (bytes : List ℕ) (places : List (List ℕ)) (ps qs : List Parts) → ArePlaced bytes places (six_lists ps) → ArePlaced bytes places (six_lists qs) → ps ≡ qs
-one-parts bytes places ps qs h k =
-    let same : six_lists ps ≡ six_lists qs = sym (lists-are bytes places (six_lists ps) h) ∙ lists-are bytes places (six_lists qs) k in
-    let n : length ps ≡ length qs = sym (length-map ps (λ p. p.min)) ∙ ap (λ (z : List (List ℤ)). length (get_or z 0 [])) same ∙ length-map qs (λ p. p.min) in
-    sym (first-again ps) ∙ ap (λ z. first_parts z (six_lists ps)) n ∙ ap (first_parts (length qs)) same ∙ first-again qs
+one-parts bytes places ps qs h k = six-tell ps qs (sym (lists-are bytes places (six_lists ps) h) ∙ lists-are bytes places (six_lists qs) k)
 
 pub one-long : (bytes : List ℕ) (places : List (List ℕ)) (ps qs : List Parts) → ArePlaced bytes places (six_lists ps) → ArePlaced bytes places (six_lists qs) → length ps ≡ length qs
 one-long bytes places ps qs h k = ap (λ (z : List Parts). length z) (one-parts bytes places ps qs h k)

@@ -9,7 +9,7 @@ use Rattle.std.specs.Ordering.{nat_cmp, is_eq, ordering_reverse}
 use Rattle.std.specs.Str.{bytes_eq}
 use Rattle.std.proofs.lemmas.Bool.{false≢true, cases_lt}
 use Rattle.std.proofs.lemmas.Cmp.{nat_list_cmp_total}
-use Rattle.std.proofs.lemmas.List.{append_assoc, append-nil, length-append, take_more, take_all, drop_more, length-take, get_or_default, take-append-drop}
+use Rattle.std.proofs.lemmas.List.{append_assoc, append-nil, length-append, take_more, take_all, drop_all, drop_more, length-take, get_or_default, take-append-drop}
 use Rattle.std.proofs.lemmas.Map.Text.{is_eq-slice_cmp}
 use Rattle.std.proofs.lemmas.Nat.{from_be_bytes-to_be_bytes_8, be_bytes_8}
 use Rattle.std.proofs.lemmas.Slice.Eq.{bytes_eq-Decides}
@@ -17,25 +17,19 @@ use Rattle.row_cells.specs.Each.{Each}
 use Rattle.row_cells.specs.Dimensions.{IsBefore}
 use Rattle.column_block.specs.Rules.{IsText, TextsAscend, TextsAscendAfter}
 use Rattle.row_cells.specs.Dimensions.{text_bytes}
+use Rattle.row_cells.specs.JoinLaws.{before_chain, not_before_itself}
 use Rattle.row_cells.specs.KeyLaws.{text_bytes_injective}
+use Rattle.row_cells.specs.WidenLaws.{apart, other_bytes}
 use Rattle.column_block.specs.Spelling.{IsIn, ordinal, table_bytes}
 use Rattle.column_block.specs.Worded.{AreTexts}
-use Rattle.column_block.proofs.Among.{in-at, each-append}
+use Rattle.column_block.specs.EachLaws.{each-append, each-at}
+use Rattle.column_block.proofs.Among.{in-at}
 use Rattle.packed_lists.specs.Laws.Fronts.{same-fronts}
 
 -- ---- the order
 
-pub before-self : (a : List ℕ) → IsBefore a a → ⊥
-before-self a h = false≢true (sym (ap is_eq h) ∙ is_eq-slice_cmp a a ∙ (bytes_eq-Decides a a).1 refl)
-
-pub before-trans : (a b c : List ℕ) → IsBefore a b → IsBefore b c → IsBefore a c
-before-trans a b c h k = nat_list_cmp_total.trans a b c h k
-
-pub before-back : (a b : List ℕ) → IsBefore a b → IsBefore b a → ⊥
-before-back a b h k = before-self a (before-trans a b a h k)
-
-pub before-apart : (a b : List ℕ) → IsBefore a b → a ≡ b → ⊥
-before-apart a b h e = before-self b (subst (λ z. IsBefore z b) e h)
+before-back : (a b : List ℕ) → IsBefore a b → IsBefore b a → ⊥
+before-back a b h k = not_before_itself a (before_chain a b a h k)
 
 pub before-greater : (a b : List ℕ) → slice_cmp nat_cmp a b ≡ Greater → IsBefore b a
 before-greater a b h = nat_list_cmp_total.antisymm b a ∙ ap ordering_reverse h
@@ -61,7 +55,7 @@ ascend-tail t (u ∷ ts) h = h.1
 pub after-in : (t u : List ℕ) (ts : List (List ℕ)) → TextsAscendAfter t ts → IsIn u ts → IsBefore t u
 after-in t u [] h g = absurd g
 after-in t u (v ∷ ts) h (inl e) = subst (IsBefore t) (sym e) h.0
-after-in t u (v ∷ ts) h (inr g) = before-trans t v u h.0 (after-in v u ts h.1 g)
+after-in t u (v ∷ ts) h (inr g) = before_chain t v u h.0 (after-in v u ts h.1 g)
 
 -- later places have later texts
 pub at-order : (us : List (List ℕ)) (k m : ℕ) → TextsAscend us → k < m → m < length us → IsBefore (get_or us k []) (get_or us m [])
@@ -77,13 +71,6 @@ ord-first u t us e = ap (λ b. if b then 0 else 1 + ordinal us t) e
 
 ord-later : (u t : List ℕ) (us : List (List ℕ)) → bytes_eq u t ≡ false → ordinal (u ∷ us) t ≡ suc (ordinal us t)
 ord-later u t us e = (let one : 1 + ordinal us t ≡ suc (ordinal us t) = omega arith in ap (λ b. if b then 0 else 1 + ordinal us t) e ∙ one)
-
-apart-test : (u t : List ℕ) (v : Bool) → bytes_eq u t ≡ v → (u ≡ t → ⊥) → bytes_eq u t ≡ false
-apart-test u t true e h = absurd (h ((bytes_eq-Decides u t).0 e))
-apart-test u t false e h = e
-
-pub apart : (u t : List ℕ) → (u ≡ t → ⊥) → bytes_eq u t ≡ false
-apart u t h = apart-test u t (bytes_eq u t) refl h
 
 -- the text at a place of a table, and its place
 pub record Stands (us : List (List ℕ)) (t : List ℕ) : Type 0 where
@@ -110,7 +97,7 @@ ord-of (u ∷ us) zero h b = ord-first u u us ((bytes_eq-Decides u u).1 refl)
 ord-of (u ∷ us) (suc k) h b =
     let t = get_or us k [] in
     let before = after-in u t us h (in-at us k [] (omega arith)) in
-    ord-later u t us (apart u t (before-apart u t before)) ∙ ap suc (ord-of us k (ascend-tail u us h) (omega arith))
+    ord-later u t us (other_bytes u t (apart u t before)) ∙ ap suc (ord-of us k (ascend-tail u us h) (omega arith))
 
 -- a later text has a later place
 pub ord-order : (us : List (List ℕ)) (t v : List ℕ) → TextsAscend us → IsIn t us → IsIn v us → IsBefore t v → ordinal us t < ordinal us v
@@ -119,7 +106,7 @@ ord-order us t v h a b before = elim (cases_lt (ordinal us t) (ordinal us v)) [
   | inr g ↦ elim (cases_lt (ordinal us v) (ordinal us t)) [
     | inl more ↦ absurd (before-back t v before (rw (sym (stands us v b).is, sym (stands us t a).is) (at-order us (ordinal us v) (ordinal us t) h more (stands us t a).within)))
     | inr less ↦ (let same : ordinal us t ≡ ordinal us v = omega (arith, g, less) in
-        absurd (before-apart t v before (sym (stands us t a).is ∙ ap (λ k. get_or us k []) same ∙ (stands us v b).is)))
+        absurd (apart t v before (sym (stands us t a).is ∙ ap (λ k. get_or us k []) same ∙ (stands us v b).is)))
   ]
 ]
 
@@ -186,6 +173,12 @@ same-texts (t ∷ ts) (u ∷ us) x y h k n e =
     let r = same-texts ts us x y h.1 k.1 (omega arith) s.1 in
     (ap (λ z. z ∷ ts) s.0 ∙ ap (λ z. u ∷ z) r.0, r.1)
 
+-- as many texts are the same ones
+pub same-many : (ts us : List (List ℕ)) (x y : List ℕ) → length ts ≡ length us → Each IsText ts → Each IsText us → flat_map text_bytes ts ++ x ≡ flat_map text_bytes us ++ y → (ts ≡ us) × (x ≡ y)
+same-many ts us x y n h k e =
+    let s = same-texts ts us x y h k (omega (arith, n)) e in
+    (s.0 ∙ take_all (length ts) us (omega (arith, n)), s.1 ∙ ap (λ z. flat_map text_bytes z ++ y) (drop_all (length ts) us (omega (arith, n))))
+
 texts-long : (us : List (List ℕ)) → length us ≤ length (flat_map text_bytes us)
 texts-long [] = omega arith
 texts-long (u ∷ us) = omega (arith, texts-long us, length-append (text_bytes u) (flat_map text_bytes us))
@@ -227,15 +220,10 @@ next-text head tail bytes last rest ts us count k n b few c less h m s g e =
     record {
       text = t;
       more = more;
-      good = each-good us d inside g.each;
+      good = each-at IsText us d [] inside g.each;
       ascend = subst (λ z. TextsAscend z) (take_more us d [] inside ∙ ap (λ z. z ++ t ∷ []) (sym r.0)) (ascend-take (d + 1) us g.ascend);
       begins = r.1 ∙ ap (λ z. flat_map text_bytes z ++ last) (drop_more us d [] inside) ∙ append_assoc (text_bytes t) (flat_map text_bytes (drop (d + 1) us)) last;
     }
-  where
-    each-good : (vs : List (List ℕ)) (i : ℕ) → i < length vs → Each IsText vs → IsText (get_or vs i [])
-    each-good [] i w all = absurd (omega arith)
-    each-good (v ∷ vs) zero w all = all.0
-    each-good (v ∷ vs) (suc i) w all = each-good vs i (omega arith) all.1
 
 -- two tables that begin the same bytes are one
 pub table-one : (ts us : List (List ℕ)) (x y : List ℕ) → AreTexts ts → AreTexts us → length (table_bytes ts ++ x) < 2 ^ 64 → table_bytes ts ++ x ≡ table_bytes us ++ y → (ts ≡ us) × (x ≡ y)
@@ -243,14 +231,7 @@ table-one ts us x y h k few e =
     let whole = table_bytes ts ++ x in
     let top = table-head (to_be_bytes w64 (length ts)) (flat_map text_bytes ts ++ x) whole y us refl (append_assoc (to_be_bytes w64 (length ts)) (flat_map text_bytes ts) x) few e in
     let n : length ts ≡ length us = sym (from_be_bytes-to_be_bytes_8 (length ts) (omega (arith, few, table-long ts whole x refl))) ∙ top.0 in
-    let r = same-texts ts us x y h.each k.each (omega (arith, n)) top.1 in
-    (r.0 ∙ take_all (length ts) us (omega (arith, n)), r.1 ∙ ap (λ z. flat_map text_bytes z ++ y) (none us (length ts) (omega (arith, n))))
-  where
-    none : (vs : List (List ℕ)) (i : ℕ) → length vs ≤ i → drop i vs ≡ []
-    none [] zero w = refl
-    none [] (suc i) w = refl
-    none (v ∷ vs) zero w = absurd (omega arith)
-    none (v ∷ vs) (suc i) w = none vs i (omega arith)
+    same-many ts us x y n h.each k.each top.1
 
 -- what was read is a table
 pub table-read : (head tail bytes rest : List ℕ) (ts : List (List ℕ)) (count : ℕ) → length head ≡ 8 → ((i : ℕ) → get_or head i 0 < 256) → bytes ≡ head ++ tail → count ≡ from_be_bytes w64 head → length ts ≡ count

@@ -1,9 +1,9 @@
 -- Columns of whole numbers.
-use Rattle.std.proofs.Common.{◌≡◌, ℕ, ℤ, ◌+◌, ◌*◌, ◌<◌, ◌≤◌, ◌^◌, List, [], ◌∷◌, ◌++◌, length, take, drop, refl, sym, ◌∙◌, ap, subst, arith}
+use Rattle.std.proofs.Common.{◌≡◌, ℕ, ℤ, ◌+◌, ◌<◌, ◌≤◌, ◌^◌, List, [], ◌∷◌, ◌++◌, length, take, drop, refl, sym, ◌∙◌, ap, subst, arith}
 use Rattle.std.specs.Prelude.{Option, slice_range}
 use Rattle.std.specs.Int.{div_ceil}
 use Rattle.std.specs.Option.{is_some}
-use Rattle.std.proofs.lemmas.List.{length-map, length-append, append-nil, append_assoc}
+use Rattle.std.proofs.lemmas.List.{length-map, append-nil, append_assoc}
 use Rattle.column_block.specs.declared.kinds.Values.TheVariants.{Whole}
 use Rattle.packed_lists.specs.Nums.{IsNums, AreNums}
 use Rattle.packed_lists.specs.Decoded.{AreBlocksAt, values_at}
@@ -13,7 +13,7 @@ use Rattle.packed_lists.specs.Found.{IsFound}
 use Rattle.column_block.specs.Held.{IsWhole}
 use Rattle.packed_lists.specs.Laws.Decodes.{values_at-is}
 use Rattle.packed_lists.specs.Laws.Fronts.{drop-front}
-use Rattle.column_block.proofs.Presences.{length-presence, flags-are, spread-present, length-present, length-flags, no-ones}
+use Rattle.column_block.proofs.Presences.{flags-are, spread-present, length-present, length-flags, no-ones}
 use Rattle.column_block.proofs.Aheads.{flags-known, flags-spread, present-spread, found-behind, presence-size, range-values, range-flags}
 
 -- the values of a column, by what it keeps
@@ -39,15 +39,12 @@ read-whole rows size end bytes places counts rest ns few e s h n k =
     record {
       length_is = sym (length-map vs is_some) ∙ ap (λ (z : List _). length z) f ∙ length-flags rows bytes;
       few = few;
-      spelled = (h.nums, subst (λ z. AreNums (z ∷ []) h.nums) (sym p) (one-list-each ns h.nums h.spelled), found-behind bytes (presence fs) rest size end places ns e (s ∙ presence-size rows bytes) h ∙ ap (λ z. presence z ++ h.nums) (sym f));
+      spelled = (h.nums, subst (λ z. AreNums (z ∷ []) h.nums) (sym p) (one-list-each ns h.nums h.spelled), found-behind bytes (presence fs) h.nums rest size end e (s ∙ presence-size rows bytes) h.behind h.within ∙ ap (λ z. presence z ++ h.nums) (sym f));
       placed = subst (λ z. AreBlocksAt (take end bytes) places z) (sym p) h.placed;
       counted = k;
     }
 
--- bytes that begin with a column begin with its bits, and then with its numbers
-pub begins-flags : (vs : List (Option ℤ)) (bytes spelling rest : List ℕ) → Spells (Whole vs) spelling → bytes ≡ spelling ++ rest → (more : List ℕ) × (bytes ≡ presence (flags_of vs) ++ more)
-begins-flags vs bytes spelling rest (nums, h, e) f = (nums ++ rest, f ∙ ap (λ z. z ++ rest) e ∙ append_assoc (presence (flags_of vs)) nums rest)
-
+-- bytes that begin with a column have its numbers behind its bits
 pub begins-numbers : (rows size : ℕ) (vs : List (Option ℤ)) (bytes spelling rest : List ℕ) → length vs ≡ rows → size ≡ div_ceil rows 8 → Spells (Whole vs) spelling → bytes ≡ spelling ++ rest
     → (ns : List ℤ) × (nums more : List ℕ) × (length ns ≡ ones (flags_in rows bytes)) × IsNums ns nums × (drop size bytes ≡ nums ++ more)
 begins-numbers rows size vs bytes spelling rest n s (nums, (front, behind, h, g, d), e) f =
@@ -62,12 +59,6 @@ pub built-from : (vs : List (Option ℤ)) (old mid now again places counts : Lis
 built-from vs old mid now again places counts numbers lent few a b d e (nums, h, f) p g k =
     let same : lent ≡ present vs = e ∙ d in
     built now places counts nums vs few (f ∙ ap (λ z. z ++ nums) (b ∙ ap (λ z. z ++ presence (flags_of vs)) a)) (subst (λ z. IsNums z nums) same h) (subst (λ z. AreBlocksAt now places z) same p) (subst (λ z. AreCounts (length vs) z counts) g k)
-
-pub built-long : (vs : List (Option ℤ)) (old mid now again : List ℕ) (lent : List ℤ) → old ≡ [] → mid ≡ old ++ presence (flags_of vs)
-    → ((nums : List ℕ) × IsNums lent nums × (now ≡ mid ++ nums)) → again ≡ now → length vs ≤ 8 * length again
-built-long vs old mid now again lent a b (nums, h, f) g =
-    let e : again ≡ presence (flags_of vs) ++ nums = g ∙ f ∙ ap (λ z. z ++ nums) (b ∙ ap (λ z. z ++ presence (flags_of vs)) a) in
-    omega (arith, ap (λ (z : List ℕ). length z) e, length-append (presence (flags_of vs)) nums, length-presence (flags_of vs), length-map vs is_some)
 
 -- the numbers of a range of rows, by what each step of reading says
 pub numbers-are : {A : Type 0} (vs : List (Option A)) (from to first last : ℕ) (lent numbers old : List A) → from ≤ to → first ≡ length (present (take from vs)) → last ≡ length (present (take to vs))

@@ -1,18 +1,21 @@
 -- Columns of texts.
-use Rattle.std.proofs.Common.{◌≡◌, inl, inr, ℕ, ℤ, pos, ◌-◌, ◌<◌, ◌≤◌, ◌^◌, List, [], ◌∷◌, ◌++◌, length, take, drop, map, refl, sym, ◌∙◌, ap, subst, arith}
+use Rattle.std.proofs.Common.{◌≡◌, ℕ, ℤ, pos, ◌-◌, ◌<◌, ◌≤◌, ◌^◌, List, [], ◌∷◌, ◌++◌, length, take, drop, map, refl, sym, ◌∙◌, ap, subst, arith}
 use Rattle.std.specs.Prelude.{slice_range}
-use Rattle.std.proofs.lemmas.List.{append_assoc, length-append, length-map, length-take-le, take-append-drop, take-map, drop-map, take_all}
+use Rattle.std.proofs.lemmas.List.{append_assoc, length-append, length-map, length-take-le, take-append-drop, take-map, drop-map}
+use Rattle.packed_lists.specs.Lists.{Fronted, joined}
 use Rattle.column_block.specs.declared.kinds.Values.TheVariants.{Words}
-use Rattle.column_block.specs.Cutting.{Fronted, IsShort, cut, total}
+use Rattle.column_block.specs.Cutting.{IsShort, cut, total}
 use Rattle.packed_lists.specs.Nums.{AreNums}
 use Rattle.row_cells.specs.Each.{Each}
-use Rattle.column_block.specs.Rules.{IsText, IsTextRow, KeepsRules, TextsAscend}
-use Rattle.column_block.specs.Spelling.{IsIn, IsTableOf, Spells, joined, lengths, ordinal, ordinals, table_bytes}
+use Rattle.column_block.specs.Rules.{IsTextRow, KeepsRules, TextsAscend}
+use Rattle.column_block.specs.Spelling.{IsTableOf, Spells, lengths, ordinal, ordinals, table_bytes}
 use Rattle.column_block.specs.Worded.{AreOrdinals, AreTexts, AreWords, ClimbFrom, HaveSame, texts_at, worded}
-use Rattle.column_block.proofs.Among.{in-either, each-in, each-all, each-range}
+use Rattle.column_block.specs.EachLaws.{each-range}
 use Rattle.column_block.proofs.Climbing.{joined-map, ordinals-valid, words-back, places-back, text-rows, table-is}
 use Rattle.column_block.proofs.Cuts.{cut-joined, total-lengths}
 use Rattle.packed_lists.specs.Laws.Fronts.{same-nums, take-front, drop-front}
+use Rattle.column_block.proofs.NumberRowed.{all-rows}
+use Rattle.column_block.proofs.OneColumn.{texts-each}
 use Rattle.column_block.proofs.Rowed.{begins-sizes}
 use Rattle.column_block.proofs.Tabling.{table-one}
 
@@ -48,13 +51,9 @@ short-rows us (ts ∷ lists) h = (omega (arith, h.0.few, length-map ts (λ u. po
 pub short-places : (us : List (List ℕ)) (lists : List (List (List ℕ))) (rows : List (List ℤ)) → rows ≡ map (ordinals us) lists → Each IsTextRow lists → Each IsShort rows
 short-places us lists rows e h = subst (λ z. Each IsShort z) (sym e) (short-rows us lists h)
 
-text-of : (lists : List (List (List ℕ))) → Each IsTextRow lists → (t : List ℕ) → IsIn t (joined lists) → IsText t
-text-of [] h t g = absurd g
-text-of (ts ∷ lists) h t g = elim (in-either t ts (joined lists) g) [ inl k ↦ each-in IsText ts t h.0.texts k | inr k ↦ text-of lists h.1 t k ]
-
 -- the texts of a table can be one
 pub table-texts : (us : List (List ℕ)) (lists : List (List (List ℕ))) → TextsAscend us → HaveSame us (joined lists) → Each IsTextRow lists → AreTexts us
-table-texts us lists a s h = record { ascend = a; each = each-all IsText us (λ t g. text-of lists h t ((s t).0 g)) }
+table-texts us lists a s h = record { ascend = a; each = texts-each us lists (record { ascend = a; occur = s }) h }
 
 pub built-words : (us lent other : List (List ℕ)) (lists : List (List (List ℕ))) (rows : Fronted) (front : List ℕ) (places shown : List (List ℤ)) → TextsAscend us → HaveSame us (joined lists) → Each IsTextRow lists
     → lent ≡ us → front ≡ table_bytes lent → other ≡ us → places ≡ map (ordinals other) lists → shown ≡ places → rows.front ≡ front → rows.lists ≡ shown → AreWords us rows lists
@@ -128,20 +127,17 @@ read-words us bytes tail used rows a u e f s o = record {
   rules = text-rows us rows.lists a s o.climb;
 }
 
-pub whole-rows : {A : Type 0} (rows : List A) (count : ℕ) → length rows ≡ count → slice_range rows 0 count ≡ rows
-whole-rows rows count n = (let z : count - 0 ≡ length rows = omega arith in ap (λ k. take k rows) z ∙ take_all (length rows) rows (omega arith))
-
 pub table-inside : (us : List (List ℕ)) (bytes tail : List ℕ) (used : ℕ) → used ≡ length (table_bytes us) → bytes ≡ table_bytes us ++ tail → used ≤ length bytes
 table-inside us bytes tail used u e = omega (arith, u, ap (λ (z : List ℕ). length z) e, length-append (table_bytes us) tail)
 
 -- the test of places, of all rows
 pub read-ordinals : (count n rows : ℕ) (shown places lists : List (List ℤ)) → AreOrdinals count shown → count ≡ n → shown ≡ places → places ≡ slice_range lists 0 rows → length lists ≡ rows → AreOrdinals n lists
 read-ordinals count n rows shown places lists h c s p m =
-    subst (λ z. AreOrdinals z lists) c (subst (λ z. AreOrdinals count z) (s ∙ p ∙ whole-rows lists rows m) h)
+    subst (λ z. AreOrdinals z lists) c (subst (λ z. AreOrdinals count z) (s ∙ p ∙ all-rows lists rows m) h)
 
 pub shown-ordinals : (count n rows : ℕ) (shown places lists other : List (List ℤ)) → AreOrdinals n other → count ≡ n → shown ≡ places → places ≡ slice_range lists 0 rows → length lists ≡ rows → lists ≡ other → AreOrdinals count shown
 shown-ordinals count n rows shown places lists other h c s p m e =
-    subst (λ z. AreOrdinals z shown) (sym c) (subst (λ z. AreOrdinals n z) (sym (s ∙ p ∙ whole-rows lists rows m ∙ e)) h)
+    subst (λ z. AreOrdinals z shown) (sym c) (subst (λ z. AreOrdinals n z) (sym (s ∙ p ∙ all-rows lists rows m ∙ e)) h)
 
 pub climb-range : (us lent : List (List ℕ)) (rows : Fronted) (lists : List (List (List ℕ))) (shown places : List (List ℤ)) (from to : ℕ) → AreWords us rows lists → lent ≡ us → shown ≡ places → places ≡ slice_range rows.lists from to
     → Each (ClimbFrom (pos 0) (pos (length lent))) shown

@@ -4,7 +4,8 @@ use Rattle.packed_lists.specs.Decoded.{AreBlocksAt, values_at}
 use Rattle.packed_lists.specs.Nums.{AreNums}
 use Rattle.row_cells.specs.Limits.{longest_list}
 use Rattle.row_cells.specs.Each.{Each}
-use Rattle.column_block.specs.Spelling.{joined, lengths}
+use Rattle.packed_lists.specs.Lists.{joined}
+use Rattle.column_block.specs.Spelling.{lengths}
 
 -- items cut into lists of some lengths
 abbrev pub cut : {A : Type 0} → List ℤ → List A → List (List A)
@@ -15,11 +16,6 @@ cut (n ∷ ns) xs = take (unsigned_abs n) xs ∷ cut ns (drop (unsigned_abs n) x
 abbrev pub total : List ℤ → ℕ
 total [] = 0
 total (n ∷ ns) = unsigned_abs n + total ns
-
--- lists, behind some bytes
-pub record Fronted : Type 0 where
-  pub front : List ℕ
-  pub lists : List (List ℤ)
 
 -- the length of a list
 pub record IsSize (n : ℤ) : Type 0 where

@@ -7,6 +7,5 @@ pub mod Cutting
 pub mod HalfLaws
 pub mod Worded
 pub mod Columned
+pub mod EachLaws
 pub mod HeldParts
-pub use Rattle.packed_lists.specs.Nums
-pub use Rattle.packed_lists.specs.Decoded

@@ -6,6 +6,7 @@ use Rattle.std.specs.Str.{bytes_eq}
 use Rattle.fold_law.specs.declared.measures.Parts.{Parts}
 use Rattle.column_block.specs.declared.kinds.Values.{Values}
 use Rattle.column_block.specs.declared.kinds.Values.TheVariants.{Whole, Parts as PartsOf, Wholes, Words}
+use Rattle.packed_lists.specs.Lists.{joined}
 use Rattle.packed_lists.specs.Nums.{AreNums}
 use Rattle.row_cells.specs.Dimensions.{text_bytes}
 use Rattle.column_block.specs.Presence.{presence, present, flags_of}
@@ -33,10 +34,6 @@ six_lists ps =
 abbrev pub IsIn : {A : Type 0} → A → List A → Type 0
 IsIn x [] = ⊥
 IsIn x (y ∷ ys) = (x ≡ y) ⊎ IsIn x ys
-
--- all items of some lists, in order
-abbrev pub joined : {A : Type 0} → List (List A) → List A
-joined lists = flat_map (λ xs. xs) lists
 
 abbrev pub lengths : {A : Type 0} → List (List A) → List ℤ
 lengths lists = map (λ xs. pos (length xs)) lists

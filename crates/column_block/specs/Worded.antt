@@ -1,9 +1,9 @@
 -- Lists of texts by their places in a table.
 use Rattle.std.specs.Prelude.{◌≡◌, ◌↔◌, ℕ, ℤ, pos, ◌+ℤ◌, ◌≤ℤ◌, ◌<ℤ◌, ◌<◌, Bool, false, IsTrue, List, [], ◌∷◌, length, map, get_or, unsigned_abs}
-use Rattle.column_block.specs.Cutting.{Fronted}
 use Rattle.row_cells.specs.Each.{Each}
+use Rattle.packed_lists.specs.Lists.{Fronted, joined}
 use Rattle.column_block.specs.Rules.{IsText, IsTextRow, TextsAscend}
-use Rattle.column_block.specs.Spelling.{IsIn, IsTableOf, joined, ordinals, table_bytes}
+use Rattle.column_block.specs.Spelling.{IsIn, IsTableOf, ordinals, table_bytes}
 
 -- the texts at some places of a table
 abbrev pub texts_at : List (List ℕ) → List ℤ → List (List ℕ)

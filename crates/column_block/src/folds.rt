@@ -4,7 +4,7 @@ ghost use Rattle.fold_law.specs.Laws.{fold_of, reach_of_items};
 ghost use Rattle.fold_law.specs.Gauges.{no_gauge, merge_gauges, gauge_of_one, reach_of_gauge};
 ghost use Rattle.column_pack.specs.Summary.{IsSummary};
 ghost use Rattle.column_block.specs.Presence.{present};
-ghost use Rattle.column_block.specs.Ranges.{parts_of_one};
+ghost use Rattle.row_cells.specs.Merging.{parts_of_value};
 
 use crate::parts_column::PartsColumn;
 use crate::six_lists::UNREAD;
@@ -25,7 +25,7 @@ fn fold_some<F: Fold<Item = Parts>>(folded: F, parts: &[Parts], from: usize, to:
 
 /// The parts of a number by itself.
 fn parts_of_number(value: i64) -> Parts
-    ensures { result ≡ parts_of_one value }
+    ensures { result ≡ parts_of_value value }
 {
     Parts {
         min: value,
@@ -37,7 +37,7 @@ fn parts_of_number(value: i64) -> Parts
 
 /// The gauge of the numbers of a block.
 fn gauge_of_summary(summary: Summary) -> Gauge
-    ensures { (vs : List ℤ) → 0 < length vs → IsSummary vs summary → result ≡ fold_of no_gauge merge_gauges gauge_of_one (map parts_of_one vs) }
+    ensures { (vs : List ℤ) → 0 < length vs → IsSummary vs summary → result ≡ fold_of no_gauge merge_gauges gauge_of_one (map parts_of_value vs) }
 {
     Gauge(Some(Parts {
         min: summary.min,
@@ -51,9 +51,9 @@ impl WholeColumn {
     /// Writes the parts of the numbers of a block to the front of `into`, and says how many they are.
     fn read_parts(&self, block: usize, into: &mut [Parts; 128]) -> usize
         requires { 128 * block < length (present self.now) }
-        ensures count { result ≡ length (slice_range (map parts_of_one (present self.now)) (128 * block) (128 * block + 128)) }
+        ensures count { result ≡ length (slice_range (map parts_of_value (present self.now)) (128 * block) (128 * block + 128)) }
         ensures few { result ≤ 128 }
-        ensures parts { take result into.new ≡ slice_range (map parts_of_one (present self.now)) (128 * block) (128 * block + 128) }
+        ensures parts { take result into.new ≡ slice_range (map parts_of_value (present self.now)) (128 * block) (128 * block + 128) }
     {
         let mut numbers = [0i64; BLOCK];
         let count = self.read_block(block, &mut numbers);
@@ -68,8 +68,8 @@ impl WholeColumn {
         requires order { from < to }
         requires inside { to ≤ 128 }
         requires within { 128 * block + to ≤ length (present self.now) }
-        requires reach { F.reach folded + reach_of_items F.reach F.one (slice_range (map parts_of_one (present self.now)) (128 * block + from) (128 * block + to)) ≤ 2 ^ 120 }
-        ensures { result ≡ F.merge folded (fold_of F.none F.merge F.one (slice_range (map parts_of_one (present self.now)) (128 * block + from) (128 * block + to))) }
+        requires reach { F.reach folded + reach_of_items F.reach F.one (slice_range (map parts_of_value (present self.now)) (128 * block + from) (128 * block + to)) ≤ 2 ^ 120 }
+        ensures { result ≡ F.merge folded (fold_of F.none F.merge F.one (slice_range (map parts_of_value (present self.now)) (128 * block + from) (128 * block + to))) }
     {
         let mut buffer = [UNREAD; BLOCK];
         let count = self.read_parts(block, &mut buffer);
@@ -80,8 +80,8 @@ impl WholeColumn {
     fn fold_numbers<F: Fold<Item = Parts>>(&self, from: usize, to: usize) -> F
         requires order { from ≤ to }
         requires within { to ≤ length (present self.now) }
-        requires reach { reach_of_items F.reach F.one (slice_range (map parts_of_one (present self.now)) from to) ≤ 2 ^ 120 }
-        ensures { result ≡ fold_of F.none F.merge F.one (slice_range (map parts_of_one (present self.now)) from to) }
+        requires reach { reach_of_items F.reach F.one (slice_range (map parts_of_value (present self.now)) from to) ≤ 2 ^ 120 }
+        ensures { result ≡ fold_of F.none F.merge F.one (slice_range (map parts_of_value (present self.now)) from to) }
     {
         let mut folded = F::none();
         let mut at = from;
@@ -99,8 +99,8 @@ impl WholeColumn {
     pub fn fold_block<F: Fold<Item = Parts>>(&self, from: usize, to: usize) -> F
         requires order { from ≤ to }
         requires within { to ≤ length self.now }
-        requires reach { reach_of_items F.reach F.one (map parts_of_one (present (slice_range self.now from to))) ≤ 2 ^ 120 }
-        ensures { result ≡ fold_of F.none F.merge F.one (map parts_of_one (present (slice_range self.now from to))) }
+        requires reach { reach_of_items F.reach F.one (map parts_of_value (present (slice_range self.now from to))) ≤ 2 ^ 120 }
+        ensures { result ≡ fold_of F.none F.merge F.one (map parts_of_value (present (slice_range self.now from to))) }
     {
         let first = self.count_to(from);
         let last = self.count_to(to);
@@ -112,8 +112,8 @@ impl WholeColumn {
         requires order { from < to }
         requires inside { to ≤ 128 }
         requires within { 128 * block + to ≤ length (present self.now) }
-        requires reach { reach_of_items reach_of_gauge gauge_of_one (slice_range (map parts_of_one (present self.now)) (128 * block + from) (128 * block + to)) ≤ 2 ^ 120 }
-        ensures { result ≡ fold_of no_gauge merge_gauges gauge_of_one (slice_range (map parts_of_one (present self.now)) (128 * block + from) (128 * block + to)) }
+        requires reach { reach_of_items reach_of_gauge gauge_of_one (slice_range (map parts_of_value (present self.now)) (128 * block + from) (128 * block + to)) ≤ 2 ^ 120 }
+        ensures { result ≡ fold_of no_gauge merge_gauges gauge_of_one (slice_range (map parts_of_value (present self.now)) (128 * block + from) (128 * block + to)) }
     {
         if to - from == BLOCK {
             gauge_of_summary(self.summary(block))
@@ -126,8 +126,8 @@ impl WholeColumn {
     fn gauge_numbers(&self, from: usize, to: usize) -> Gauge
         requires order { from ≤ to }
         requires within { to ≤ length (present self.now) }
-        requires reach { reach_of_items reach_of_gauge gauge_of_one (slice_range (map parts_of_one (present self.now)) from to) ≤ 2 ^ 120 }
-        ensures { result ≡ fold_of no_gauge merge_gauges gauge_of_one (slice_range (map parts_of_one (present self.now)) from to) }
+        requires reach { reach_of_items reach_of_gauge gauge_of_one (slice_range (map parts_of_value (present self.now)) from to) ≤ 2 ^ 120 }
+        ensures { result ≡ fold_of no_gauge merge_gauges gauge_of_one (slice_range (map parts_of_value (present self.now)) from to) }
     {
         let mut gauge = Gauge::none();
         let mut at = from;
@@ -145,8 +145,8 @@ impl WholeColumn {
     pub fn gauge(&self, from: usize, to: usize) -> Gauge
         requires order { from ≤ to }
         requires within { to ≤ length self.now }
-        ensures gauge { result ≡ fold_of no_gauge merge_gauges gauge_of_one (map parts_of_one (present (slice_range self.now from to))) }
-        ensures reach { reach_of_items reach_of_gauge gauge_of_one (map parts_of_one (present (slice_range self.now from to))) ≤ 2 ^ 119 }
+        ensures gauge { result ≡ fold_of no_gauge merge_gauges gauge_of_one (map parts_of_value (present (slice_range self.now from to))) }
+        ensures reach { reach_of_items reach_of_gauge gauge_of_one (map parts_of_value (present (slice_range self.now from to))) ≤ 2 ^ 119 }
     {
         let first = self.count_to(from);
         let last = self.count_to(to);

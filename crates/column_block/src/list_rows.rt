@@ -1,10 +1,11 @@
 //! Packed lists of whole numbers, a list a row, behind other bytes.
 ghost use Rattle.std.specs.Prelude.{◌≡◌, ℕ, ℤ, ◌<◌, ◌≤◌, ◌^◌, ◌++◌, List, [], ◌∷◌, length, take, drop, slice_range, All, IfOk, Err};
+ghost use Rattle.packed_lists.specs.Lists.{joined};
 ghost use Rattle.column_block.specs.Cutting.{IsShort, IsSize, total};
 ghost use Rattle.packed_lists.specs.Found.{IsFound};
 ghost use Rattle.packed_lists.specs.Nums.{AreNums, IsNums};
 ghost use Rattle.row_cells.specs.Each.{Each};
-ghost use Rattle.column_block.specs.Spelling.{joined, lengths};
+ghost use Rattle.column_block.specs.Spelling.{lengths};
 
 use crate::kinds::{ColumnError, Numbers};
 use crate::rows::{are_sizes, cut_into, join, sizes_of, starts_of, sum_of};
@@ -31,7 +32,8 @@ pub struct ListRows {
 
 impl Model for ListRows {
     ghost use Rattle.std.specs.Prelude.{take};
-    ghost use Rattle.column_block.specs.Cutting.{Fronted, AreRows, lists_at};
+    ghost use Rattle.packed_lists.specs.Lists.{Fronted};
+    ghost use Rattle.column_block.specs.Cutting.{AreRows, lists_at};
 
     ghost Value = { Fronted };
 

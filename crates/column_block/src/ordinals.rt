@@ -1,8 +1,9 @@
 //! Lists of texts as lists of their places in a table.
 ghost use Rattle.std.specs.Prelude.{◌≡◌, ℕ, ℤ, pos, ◌<◌, ◌<ℤ◌, ◌≤ℤ◌, ◌^◌, ◌++◌, ◌↔◌, Bool, List, length, map, get_or, IfOk, OnOk, IsTrue, false};
 ghost use Rattle.row_cells.specs.Each.{Each};
+ghost use Rattle.packed_lists.specs.Lists.{joined};
 ghost use Rattle.column_block.specs.Rules.{TextsAscend};
-ghost use Rattle.column_block.specs.Spelling.{IsIn, joined, ordinals};
+ghost use Rattle.column_block.specs.Spelling.{IsIn, ordinals};
 ghost use Rattle.column_block.specs.Worded.{AreMarked, AreOrdinals, ClimbFrom, texts_at, worded};
 
 use crate::kinds::{Numbers, Texts};

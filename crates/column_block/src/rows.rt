@@ -1,10 +1,11 @@
 //! Lists of whole numbers, a list a row, behind other bytes.
 ghost use Rattle.std.specs.Prelude.{◌≡◌, ℕ, ℤ, pos, ◌*◌, ◌+◌, ◌<◌, ◌≤◌, ◌≤ℤ◌, ◌^◌, ◌++◌, List, [], ◌∷◌, length, take, drop, map, slice_range, unsigned_abs, All, IfOk, OnOk, Err, IsTrue, ◌↔◌};
 ghost use Rattle.row_cells.specs.Limits.{longest_list};
+ghost use Rattle.packed_lists.specs.Lists.{joined};
 ghost use Rattle.column_block.specs.Cutting.{cut, total, AreStarts, IsShort, IsSize};
 ghost use Rattle.packed_lists.specs.Nums.{AreNums};
 ghost use Rattle.row_cells.specs.Each.{Each};
-ghost use Rattle.column_block.specs.Spelling.{joined, lengths};
+ghost use Rattle.column_block.specs.Spelling.{lengths};
 
 use crate::kinds::Numbers;
 use edge_face::NoMemory;

@@ -5,9 +5,10 @@ ghost use Rattle.std.specs.List.Sorted.{IsStrictlySortedBy};
 ghost use Rattle.std.specs.Ordering.{nat_cmp};
 ghost use Rattle.row_cells.specs.Each.{Each};
 ghost use Rattle.row_cells.specs.Limits.{longest_word};
+ghost use Rattle.packed_lists.specs.Lists.{joined};
 ghost use Rattle.column_block.specs.Rules.{IsText, TextsAscend};
 ghost use Rattle.row_cells.specs.Dimensions.{text_bytes};
-ghost use Rattle.column_block.specs.Spelling.{IsIn, joined, ordinal, table_bytes};
+ghost use Rattle.column_block.specs.Spelling.{IsIn, ordinal, table_bytes};
 ghost use Rattle.column_block.specs.Worded.{AreTexts, HaveSame};
 
 use crate::kinds::{ColumnError, Texts};

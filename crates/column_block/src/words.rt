@@ -23,7 +23,7 @@ pub struct TextRows {
 
 impl Model for TextRows {
     ghost use Rattle.std.specs.Prelude.{List, ℕ};
-    ghost use Rattle.column_block.specs.Cutting.{Fronted};
+    ghost use Rattle.packed_lists.specs.Lists.{Fronted};
     ghost use Rattle.column_block.specs.Worded.{AreWords, worded};
 
     ghost Value = { List (List (List ℕ)) };

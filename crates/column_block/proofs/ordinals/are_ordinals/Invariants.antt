@@ -1,6 +1,6 @@
 use Rattle.std.proofs.Common.{◌≡◌, pos, length, take}
 use Rattle.row_cells.specs.Each.{Each}
-use Rattle.column_block.specs.Spelling.{joined}
+use Rattle.packed_lists.specs.Lists.{joined}
 use Rattle.column_block.specs.Worded.{AreMarked, ClimbFrom}
 use Rattle.column_block.proofs.ordinals.are_ordinals.Given as goal
 

@@ -1,5 +1,5 @@
 use Rattle.std.proofs.Common.{◌≡◌, take}
-use Rattle.column_block.specs.Spelling.{joined}
+use Rattle.packed_lists.specs.Lists.{joined}
 use Rattle.column_block.proofs.rows.join.Given as goal
 
 abbrev pub invariant-loop-list : goal.invariant-loop-list

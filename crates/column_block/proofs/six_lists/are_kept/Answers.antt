@@ -2,7 +2,8 @@ use Rattle.std.proofs.Common.{◌∙◌, sym, subst, arith, ◌*◌, ◌+◌}
 use Rattle.std.proofs.lemmas.List.{take_all}
 use Rattle.row_cells.specs.Each.{Each}
 use Rattle.column_block.specs.Rules.{AreParts}
-use Rattle.column_block.proofs.SixLists.{each-block, each-range, one-long}
+use Rattle.column_block.specs.EachLaws.{each-range}
+use Rattle.column_block.proofs.SixLists.{each-block, one-long}
 use Rattle.column_block.proofs.six_lists.are_kept.Goals as goal
 
 pub read_parts-found-requires : goal.read_parts-found-requires

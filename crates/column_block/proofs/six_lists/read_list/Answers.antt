@@ -1,6 +1,7 @@
 use Rattle.std.proofs.Common.{arith, [], get_or}
 use Rattle.column_block.specs.Spelling.{six_lists}
-use Rattle.column_block.proofs.SixLists.{places-lists, list-blocks, list-block-within, list-count, block-few, list-number}
+use Rattle.packed_lists.specs.Laws.Listed.{places-lists}
+use Rattle.column_block.proofs.SixLists.{list-blocks, list-block-within, list-count, block-few, list-number}
 use Rattle.column_block.proofs.six_lists.read_list.Goals as goal
 
 pub bounds-places-list : goal.bounds-places-list

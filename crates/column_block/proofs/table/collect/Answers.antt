@@ -1,6 +1,6 @@
 use Rattle.std.proofs.Common.{subst, ◌++◌, List, ℕ}
 use Rattle.std.proofs.lemmas.List.{take_all}
-use Rattle.column_block.specs.Spelling.{joined}
+use Rattle.packed_lists.specs.Lists.{joined}
 use Rattle.column_block.specs.Worded.{HaveSame}
 use Rattle.column_block.proofs.Among.{same-list}
 use Rattle.column_block.proofs.table.collect.Goals as goal

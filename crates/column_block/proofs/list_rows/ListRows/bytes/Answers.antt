@@ -1,6 +1,7 @@
 use Rattle.std.proofs.Common.{◌≡◌, ◌∙◌, ap, sym, drop, take, ◌++◌}
 use Rattle.std.proofs.lemmas.List.{take-append-drop}
-use Rattle.column_block.specs.Cutting.{AreRows, Fronted}
+use Rattle.packed_lists.specs.Lists.{Fronted}
+use Rattle.column_block.specs.Cutting.{AreRows}
 use Rattle.column_block.proofs.list_rows.ListRows.bytes.Goals as goal
 
 pub returns : goal.returns

@@ -1,9 +1,10 @@
 use Rattle.std.proofs.Common.{◌≡◌, ◌∙◌, ap, sym, subst, refl, length, take, ◌++◌, [], ◌∷◌, ℕ, ℤ, pos, List, Err}
 use Rattle.std.proofs.lemmas.List.{length-map}
+use Rattle.packed_lists.specs.Lists.{joined}
 use Rattle.column_block.specs.Cutting.{IsShort, total}
 use Rattle.packed_lists.specs.Nums.{AreNums}
 use Rattle.row_cells.specs.Each.{Each}
-use Rattle.column_block.specs.Spelling.{joined, lengths}
+use Rattle.column_block.specs.Spelling.{lengths}
 use Rattle.column_block.proofs.Cuts.{lengths-sizes, total-lengths}
 use Rattle.packed_lists.specs.Laws.Founds.{found-one}
 use Rattle.packed_lists.specs.Laws.Fronts.{err-same}

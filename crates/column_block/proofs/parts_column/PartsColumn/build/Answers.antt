@@ -1,9 +1,11 @@
-use Rattle.column_block.proofs.PartsColumns.{parts-are, parts-built, parts-long}
+use Rattle.column_block.proofs.Aheads.{built-long}
+use Rattle.column_block.proofs.PartsColumns.{parts-are, parts-built}
 use Rattle.column_block.proofs.parts_column.PartsColumn.build.Goals as goal
 
 pub count_rows-requires : goal.count_rows-requires
 count_rows-requires c =
-    parts-long c.args.rows.now c.new-bytes.result.items c.put_presence.new.into.items c.put_parts.new.into.items c.as_slice-2.result.now c.as_slice.result.now c.new-bytes.ensures.items c.in_ok-put_presence.ensures c.in_ok-places.ensures.spelled c.as_slice-2.ensures.value
+    let (nums, h, f) = c.in_ok-places.ensures.spelled in
+    built-long c.args.rows.now c.new-bytes.result.items c.put_presence.new.into.items c.put_parts.new.into.items c.as_slice-2.result.now nums c.new-bytes.ensures.items c.in_ok-put_presence.ensures f c.as_slice-2.ensures.value
 
 pub invariant_of-result : goal.invariant_of-result
 invariant_of-result c =

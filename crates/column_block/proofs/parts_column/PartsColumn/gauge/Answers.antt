@@ -6,7 +6,7 @@ use Rattle.column_block.specs.Presence.{present}
 use Rattle.row_cells.specs.Each.{Each}
 use Rattle.column_block.specs.Rules.{AreParts}
 use Rattle.column_block.proofs.Aheads.{count-order, count-whole}
-use Rattle.column_block.proofs.SixLists.{each-range}
+use Rattle.column_block.specs.EachLaws.{each-range}
 use Rattle.column_block.proofs.Folding.{range-there, range-size, parts-within}
 use Rattle.column_block.proofs.parts_column.PartsColumn.gauge.Goals as goal
 
