@@ -1,5 +1,5 @@
 -- The rows of one place in front of others.
-use Rattle.std.proofs.Common.{◌≡◌, ℕ, append_assoc, Some, None, take-append-drop, zero, suc, ◌+◌, ◌<◌, ◌≤◌, List, [], ◌∷◌, ◌++◌, length, take, drop, map, Bool, true, false, cond, refl, sym, ap, subst, ◌∙◌, arith, inl, inr}
+use Rattle.std.proofs.Common.{◌≡◌, ℕ, append_assoc, Some, None, take-append-drop, suc, ◌+◌, ◌<◌, ◌≤◌, List, [], ◌∷◌, ◌++◌, length, take, drop, map, Bool, true, false, cond, refl, sym, ap, subst, ◌∙◌, arith, inl, inr}
 use Rattle.std.specs.List.{prefix_len, slice_get}
 use Rattle.row_cells.specs.Limits.{most_documents}
 use Rattle.row_cells.specs.declared.schemas.Schema.{Schema}
@@ -8,6 +8,7 @@ use Rattle.row_cells.specs.Each.{Each}
 use Rattle.row_cells.specs.Fitting.{Fits, folded_form}
 use Rattle.row_cells.specs.FitLaws.{merge_of_rows_fits, rows_have_room}
 use Rattle.row_cells.specs.Merging.{merge_of_rows}
+use Rattle.row_cells.specs.RangeLaws.{each_take, documents_parts}
 use Rattle.row_cells.specs.RowLists.{AllFit, documents}
 use Rattle.downsample_fold.specs.Conditions.{HaveCells}
 use Rattle.downsample_fold.specs.Direct.{fold_at}
@@ -104,23 +105,6 @@ run_has_room schema n place (row ∷ next ∷ rest) some here fits few = (
   rows_have_room schema (fold_at schema place (next ∷ rest)) row (inr (fold_at_fits schema n place next rest some here.1 fits.1 (omega (arith, few)))) (inl fits.0) (omega (arith, few)),
   run_has_room schema n place (next ∷ rest) some here.1 fits.1 (omega (arith, few)),
 )
-
--- ---- what is left
-
-pub each_take : {X : Type 0} (P : X → Type 0) (k : ℕ) (xs : List X) → Each P xs → Each P (take k xs)
-each_take P zero xs each = tt
-each_take P (suc k) [] each = tt
-each_take P (suc k) (x ∷ xs) each = (each.0, each_take P k xs each.1)
-
-pub each_drop : {X : Type 0} (P : X → Type 0) (k : ℕ) (xs : List X) → Each P xs → Each P (drop k xs)
-each_drop P zero xs each = each
-each_drop P (suc k) [] each = tt
-each_drop P (suc k) (x ∷ xs) each = each_drop P k xs each.1
-
-pub documents_parts : (k : ℕ) (rows : List Row) → documents (take k rows) + documents (drop k rows) ≡ documents rows
-documents_parts zero rows = omega arith
-documents_parts (suc k) [] = refl
-documents_parts (suc k) (row ∷ rows) = omega (arith, documents_parts k rows)
 
 -- ---- the rows of the first row's place, cut off
 

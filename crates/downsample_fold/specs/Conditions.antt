@@ -1,5 +1,5 @@
 -- What rows are that may be folded.
-use Rattle.std.specs.Prelude.{◌≡◌, ℕ, List, [], ◌∷◌, length}
+use Rattle.std.specs.Prelude.{◌≡◌, ℕ, List, length}
 use Rattle.row_cells.specs.declared.schemas.Schema.{Schema}
 use Rattle.row_cells.specs.declared.rows.Row.{Row}
 use Rattle.row_cells.specs.Each.{Each}
@@ -8,11 +8,6 @@ use Rattle.time_text.specs.Bucket.{bucket_start}
 -- each row has a cell for each field, as one that fits has
 abbrev pub HaveCells : Schema → List Row → Type 0
 HaveCells schema rows = Each (λ row. length row.cells ≡ length schema.fields) rows
-
--- all rows are of one series
-abbrev pub AreOfOneSeries : List Row → Type 0
-AreOfOneSeries [] = Unit {0}
-AreOfOneSeries (row ∷ rows) = Each (λ other. other.key ≡ row.key) rows
 
 -- the time of each row is the start of a bucket of n milliseconds
 abbrev pub AllAtStarts : ℕ → List Row → Type 0

@@ -1,4 +1,5 @@
 pub mod ApartLaws
+pub mod CellLaws
 pub mod ColumnLaws
 pub mod Columns
 pub mod Conditions

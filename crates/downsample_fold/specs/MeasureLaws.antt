@@ -1,13 +1,11 @@
--- The cells of merges and folds at a place, and the values that folds keep.
-use Rattle.std.specs.Prelude.{◌≡◌, ℕ, zero, suc, List, [], ◌∷◌, length, slice_index_or, Bool, true, Option, Some, None}
-use Rattle.std.proofs.Common.{refl, ap, ◌∙◌, arith, sym}
-use Rattle.row_cells.specs.declared.schemas.Role.{Role}
+-- The values that folds keep.
+use Rattle.std.specs.Prelude.{◌≡◌, ℕ, List, Bool, true, Option, Some, None}
+use Rattle.std.proofs.Common.{refl, ap, ◌∙◌, sym}
 use Rattle.row_cells.specs.declared.schemas.Role.TheVariants.{Gauge as GaugeRole, Counter}
-use Rattle.row_cells.specs.declared.schemas.Field.{Field}
 use Rattle.row_cells.specs.declared.schemas.Schema.{Schema}
 use Rattle.row_cells.specs.declared.rows.Cell.{Cell}
-use Rattle.row_cells.specs.declared.rows.Cell.TheVariants.{Absent}
-use Rattle.row_cells.specs.Merging.{parts_of, cell_of_parts, rise_of, cell_of_rise, merge_cell, fold_cell, merge_cells, fold_cells}
+use Rattle.row_cells.specs.Merging.{parts_of, cell_of_parts, rise_of, cell_of_rise, merge_cell, fold_cell}
+use Rattle.row_cells.specs.MergeLaws.{merge_cell-fold_cell_left, merge_cell-fold_cell_right, fold_cell-fold_cell, fold_cell-merge_cell}
 use Rattle.fold_law.specs.declared.measures.Gauge.{Gauge}
 use Rattle.fold_law.specs.declared.measures.Parts.{Parts}
 use Rattle.fold_law.specs.declared.counters.Rise.{Rise}
@@ -17,26 +15,10 @@ use Rattle.std.specs.Str.{bytes_eq}
 use Rattle.fold_law.specs.Rises.{merge_risings}
 use Rattle.fold_law.specs.RiseLaws.{rising_laws}
 use Rattle.downsample_fold.specs.TotalLaws.{folds_keep_totals}
+use Rattle.downsample_fold.specs.CellLaws.{cell_of_merge, cell_of_fold}
 use Rattle.downsample_fold.specs.Columns.{cell_of}
 use Rattle.downsample_fold.specs.Totals.{IsFolded}
-use Rattle.downsample_fold.specs.Measures.{IsRoleAt, gauge_in, rising_in, CountsAreFolded, GaugesAreFolded, RisesAreFolded, FoldsKeepRises}
-
--- ---- the cell at a place of a merge, and of a fold
-
-pub cell_of_merge : (rises : Bool) (role : Role) (fs : List Field) (xs ys : List Cell) (place : ℕ) → length xs ≡ length fs → length ys ≡ length fs → IsRoleAt role fs place →
-    slice_index_or (merge_cells rises fs xs ys) place Absent ≡ merge_cell rises role (slice_index_or xs place Absent) (slice_index_or ys place Absent)
-cell_of_merge rises role [] xs ys place same_x same_y at = absurd at
-cell_of_merge rises role (f ∷ fs) [] ys place same_x same_y at = absurd (omega (arith, same_x))
-cell_of_merge rises role (f ∷ fs) (x ∷ xs) [] place same_x same_y at = absurd (omega (arith, same_y))
-cell_of_merge rises role (f ∷ fs) (x ∷ xs) (y ∷ ys) zero same_x same_y at = ap (λ r. merge_cell rises r x y) at
-cell_of_merge rises role (f ∷ fs) (x ∷ xs) (y ∷ ys) (suc place) same_x same_y at = cell_of_merge rises role fs xs ys place (omega (arith, same_x)) (omega (arith, same_y)) at
-
-pub cell_of_fold : (rises : Bool) (role : Role) (fs : List Field) (xs : List Cell) (place : ℕ) → length xs ≡ length fs → IsRoleAt role fs place →
-    slice_index_or (fold_cells rises fs xs) place Absent ≡ fold_cell rises role (slice_index_or xs place Absent)
-cell_of_fold rises role [] xs place same at = absurd at
-cell_of_fold rises role (f ∷ fs) [] place same at = absurd (omega (arith, same))
-cell_of_fold rises role (f ∷ fs) (x ∷ xs) zero same at = ap (λ r. fold_cell rises r x) at
-cell_of_fold rises role (f ∷ fs) (x ∷ xs) (suc place) same at = cell_of_fold rises role fs xs place (omega (arith, same)) at
+use Rattle.downsample_fold.specs.Measures.{gauge_in, rising_in, CountsAreFolded, GaugesAreFolded, RisesAreFolded, CellsAreFolded, FoldsKeepRises}
 
 parts_of-cell_of_parts : (p : Option Parts) → parts_of (cell_of_parts p) ≡ p
 parts_of-cell_of_parts None = refl
@@ -82,6 +64,17 @@ rises_are_folded schema place at rises = record {
       ap rising_by (ap rise_of (cell_of_merge schema.rises Counter schema.fields a.cells b.cells place cells_a cells_b at) ∙ (rise_of-merge schema.rises (cell_of place a) (cell_of place b) rises ∙ rise_of-cell_of_rise (merge_risings (rising_in place a) (rising_in place b)).0));
   of_one = λ a time cells.
       ap rising_by (ap rise_of (cell_of_fold schema.rises Counter schema.fields a.cells place cells at) ∙ (rise_of-fold schema.rises (cell_of place a) rises ∙ rise_of-cell_of_rise (rise_of (cell_of place a))));
+}
+
+pub cells_are_folded : CellsAreFolded
+cells_are_folded schema role place at = record {
+  of_joined = λ a b cells_a cells_b same.
+      ap (fold_cell schema.rises role) (cell_of_merge schema.rises role schema.fields a.cells b.cells place cells_a cells_b at)
+      ∙ (fold_cell-merge_cell schema.rises role (cell_of place a) (cell_of place b)
+      ∙ (sym (merge_cell-fold_cell_left schema.rises role (cell_of place a) (cell_of place b))
+      ∙ sym (merge_cell-fold_cell_right schema.rises role (fold_cell schema.rises role (cell_of place a)) (cell_of place b))));
+  of_one = λ a time cells.
+      ap (fold_cell schema.rises role) (cell_of_fold schema.rises role schema.fields a.cells place cells at) ∙ fold_cell-fold_cell schema.rises role (cell_of place a);
 }
 
 -- the rise of a series' folds, in order, is that of its rows

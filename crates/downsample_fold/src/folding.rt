@@ -4,7 +4,6 @@ ghost use Rattle.row_cells.specs.Fitting.{folded_form};
 ghost use Rattle.row_cells.specs.Limits.{most_documents};
 ghost use Rattle.row_cells.specs.RowLists.{AllFit, AreInRowOrder, documents};
 ghost use Rattle.time_text.specs.Interval.{ms_of};
-ghost use Rattle.downsample_fold.specs.Conditions.{AreOfOneSeries};
 ghost use Rattle.downsample_fold.specs.Direct.{down};
 ghost use Rattle.downsample_fold.specs.Joined.{joined};
 
@@ -53,25 +52,5 @@ pub fn fold_all(
     ensures counted { IfOk result (λ folded. documents folded.items ≡ documents rows.now) }
 {
     let folded = fold_runs(alloc, schema, rows, by)?;
-    Ok(folded)
-}
-
-/// The direct fold of the rows of one series.
-pub fn fold_series(
-    alloc: Global,
-    schema: &Schema,
-    rows: &[Row],
-    by: Interval,
-) -> Result<Vec<Row>, NoMemory>
-    requires one_series { AreOfOneSeries rows.now }
-    requires fit { AllFit schema.now rows.now }
-    requires in_order { AreInRowOrder rows.now }
-    requires few { documents rows.now ≤ most_documents }
-    ensures folded { IfOk result (λ folded. folded.items ≡ down schema.now rows.now (ms_of by)) }
-    ensures fit { IfOk result (λ folded. AllFit (folded_form schema.now) folded.items) }
-    ensures in_order { IfOk result (λ folded. AreInRowOrder folded.items) }
-    ensures counted { IfOk result (λ folded. documents folded.items ≡ documents rows.now) }
-{
-    let folded = fold_all(alloc, schema, rows, by)?;
     Ok(folded)
 }

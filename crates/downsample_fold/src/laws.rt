@@ -2,7 +2,7 @@
 ghost use Rattle.downsample_fold.specs.Laws.{FoldsCompose, FoldsSorted, FoldsAnyOrder, FoldsSomeSeries, FoldsJoinSeries, FoldsJoinFirst, FoldsJoinNext, SeriesAscend};
 ghost use Rattle.downsample_fold.specs.Laws.{FoldsInOrder, FoldsAtStarts, FoldsFit, FoldsCountAll};
 ghost use Rattle.downsample_fold.specs.Laws.{BucketInFront, FoldsAnyForm, FoldsAreRows, FoldsJoinApart, FoldsJoinPlaces, FoldsKeepDimensions, FoldsKeepSeries, FoldsSettle, FoldsSomePlaces, FoldsTested, FoldsWiden, MergesAreFolds, RowsJoinSeries};
-ghost use Rattle.downsample_fold.specs.Measures.{CountsAreFolded, FoldsKeepRises, GaugesAreFolded, RisesAreFolded};
+ghost use Rattle.downsample_fold.specs.Measures.{CellsAreFolded, CountsAreFolded, FoldsAtFields, FoldsKeepRises, GaugesAreFolded, RisesAreFolded};
 ghost use Rattle.downsample_fold.specs.Totals.{FoldsKeepDimension, FoldsKeepTested, FoldsKeepTotals, KeysAreFolded};
 
 use fold_law::Fold;
@@ -58,12 +58,14 @@ pub fn folds_keep_tested<F: Fold>()
     ensures dimensions { FoldsKeepDimension F.none F.merge }
 {}
 
-/// Such values are the number of documents, a gauge, and the rise of a counter in a schema that rises; so the rise of
-/// a series' folds in order is that of its rows.
+/// Such values are the number of documents, a gauge, the rise of a counter in a schema that rises, and the cell of any
+/// field; so the rise of a series' folds in order is that of its rows. The cell of a fold is the fold of its column.
 pub fn measures_are_folded()
     ensures counts { CountsAreFolded }
     ensures gauges { GaugesAreFolded }
     ensures rises { RisesAreFolded }
+    ensures cells { CellsAreFolded }
+    ensures columns { FoldsAtFields }
     ensures series { FoldsKeepRises }
 {}
 

@@ -7,7 +7,7 @@ mod intervals;
 mod laws;
 mod runs;
 
-pub use folding::{fold_all, fold_series};
+pub use folding::fold_all;
 pub use intervals::{IntervalError, check_interval};
 pub use laws::{
     fold_of_some_places, fold_of_some_series, folds_are_rows, folds_compose, folds_in_any_order,

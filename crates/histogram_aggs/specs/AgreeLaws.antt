@@ -19,7 +19,7 @@ use Rattle.row_cells.specs.declared.schemas.Field.{Field}
 use Rattle.row_cells.specs.Each.{Each}
 use Rattle.row_cells.specs.EachLaws.{Each-weaker, Each-all}
 use Rattle.downsample_fold.specs.Columns.{total_of}
-use Rattle.downsample_fold.specs.Measures.{IsRoleAt}
+use Rattle.row_cells.specs.Mapped.{IsRoleAt}
 use Rattle.histogram_aggs.specs.declared.aggs.AggKind.{AggKind}
 use Rattle.histogram_aggs.specs.declared.aggs.AggKind.TheVariants.{Min, Max, Sum, ValueCount, Increase, Terms, DateHistogram}
 use Rattle.histogram_aggs.specs.Asks.{Asks, no_asks, ask}

@@ -7,7 +7,7 @@ use Rattle.row_cells.specs.declared.schemas.Field.{Field}
 use Rattle.row_cells.specs.declared.rows.Cell.{Cell}
 use Rattle.row_cells.specs.Each.{Each}
 use Rattle.downsample_fold.specs.Columns.{cell_of}
-use Rattle.downsample_fold.specs.Measures.{IsRoleAt}
+use Rattle.row_cells.specs.Mapped.{IsRoleAt}
 use Rattle.histogram_aggs.specs.declared.aggs.AggKind.{AggKind}
 use Rattle.histogram_aggs.specs.declared.aggs.AggKind.TheVariants.{Min, Max, Increase, Terms, DateHistogram}
 use Rattle.histogram_aggs.specs.Asks.{Asks, no_asks, ask}

@@ -29,8 +29,10 @@ use Rattle.downsample_fold.specs.FoldLaws.{down-joined, folds_in_order, folds_at
 use Rattle.row_cells.specs.OrderLaws.{in_order-ascends, in_row_order-filter, in_row_order-same, in_row_order-each, documents-in_row_order}
 use Rattle.downsample_fold.specs.Totals.{total_over, IsFolded, chosen_rows, chosen_by_start}
 use Rattle.downsample_fold.specs.TotalLaws.{folds_keep_totals, fold_cells-length, merge_cells-length}
-use Rattle.downsample_fold.specs.Measures.{IsRoleAt, gauge_in, rising_in, count_in}
-use Rattle.downsample_fold.specs.MeasureLaws.{cell_of_fold, cell_of_merge, counts_are_folded, gauges_are_folded, rises_are_folded}
+use Rattle.row_cells.specs.Mapped.{IsRoleAt}
+use Rattle.downsample_fold.specs.Measures.{gauge_in, rising_in, count_in}
+use Rattle.downsample_fold.specs.CellLaws.{cell_of_fold, cell_of_merge}
+use Rattle.downsample_fold.specs.MeasureLaws.{counts_are_folded, gauges_are_folded, rises_are_folded}
 use Rattle.histogram_aggs.specs.Samples.{Sample, rows_in, at_window}
 use Rattle.histogram_aggs.specs.Metrics.{of_window}
 use Rattle.histogram_aggs.specs.Alike.{Choice, Head, IsOfHead, pick}

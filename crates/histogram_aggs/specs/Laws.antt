@@ -12,7 +12,7 @@ use Rattle.row_cells.specs.RowLists.{in_row_order}
 use Rattle.row_cells.specs.Widening.{widen_cells}
 use Rattle.downsample_fold.specs.Conditions.{HaveCells}
 use Rattle.downsample_fold.specs.Direct.{down}
-use Rattle.downsample_fold.specs.Measures.{IsRoleAt}
+use Rattle.row_cells.specs.Mapped.{IsRoleAt}
 use Rattle.histogram_aggs.specs.Alike.{Choice, Head, Keeps, IsOfHead, pick, Alike, AreSeriesWise}
 use Rattle.histogram_aggs.specs.Answers.{agg_all}
 use Rattle.histogram_aggs.specs.Asks.{Asks}

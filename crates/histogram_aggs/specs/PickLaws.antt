@@ -7,7 +7,7 @@ use Rattle.std.proofs.Common.{refl, ap, ◌∙◌, sym, subst, inl, inr, arith}
 use Rattle.time_text.specs.Bucket.{bucket_start}
 use Rattle.row_cells.specs.declared.schemas.Role.TheVariants.{Gauge, Counter}
 use Rattle.row_cells.specs.declared.schemas.Field.{Field}
-use Rattle.downsample_fold.specs.Measures.{IsRoleAt}
+use Rattle.row_cells.specs.Mapped.{IsRoleAt}
 use Rattle.row_cells.specs.Each.{Each}
 use Rattle.row_cells.specs.EachLaws.{Each-filter, Each-all, filter_all}
 use Rattle.histogram_aggs.specs.Sets.{ascending, Among}

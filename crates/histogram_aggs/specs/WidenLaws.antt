@@ -22,7 +22,8 @@ use Rattle.row_cells.specs.RowLists.{documents, insert_row, in_row_order}
 use Rattle.row_cells.specs.Widening.{cell_at, widen_cells}
 use Rattle.row_cells.specs.OrderLaws.{in_row_order-each}
 use Rattle.downsample_fold.specs.Totals.{total_over}
-use Rattle.downsample_fold.specs.Measures.{IsRoleAt, gauge_in, rising_in}
+use Rattle.row_cells.specs.Mapped.{IsRoleAt}
+use Rattle.downsample_fold.specs.Measures.{gauge_in, rising_in}
 use Rattle.histogram_aggs.specs.Sets.{Among}
 use Rattle.histogram_aggs.specs.Samples.{Sample, rows_in, documents_in}
 use Rattle.histogram_aggs.specs.Metrics.{gauge_all, of_window, rise_in_order}

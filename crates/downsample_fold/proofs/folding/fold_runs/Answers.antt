@@ -1,10 +1,11 @@
 use Rattle.std.proofs.Common.{◌<◌, arith, length, take}
 use Rattle.std.proofs.lemmas.List.Sums.{prefix_len-le-length}
 use Rattle.row_cells.specs.Fitting.{Fits}
+use Rattle.row_cells.specs.RangeLaws.{each_drop, each_take, documents_parts}
 use Rattle.time_text.specs.Interval.{ms_of}
 use Rattle.downsample_fold.specs.JoinedFitLaws.{AllFit-cells}
 use Rattle.downsample_fold.specs.Joined.{joined}
-use Rattle.downsample_fold.proofs.RunSteps.{with_first, run_some, joined_first, first_has_room, each_take, each_drop, documents_parts, one_run_more}
+use Rattle.downsample_fold.proofs.RunSteps.{with_first, run_some, joined_first, first_has_room, one_run_more}
 use Rattle.downsample_fold.proofs.folding.fold_runs.Goals as goal
 
 pub split_at-requires : goal.split_at-requires
