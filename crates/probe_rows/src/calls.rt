@@ -45,7 +45,6 @@ fn of_rows(call: &str, case: &Value, trial: &mut Trial) -> Option<bool> {
 fn of_folds(call: &str, case: &Value, trial: &mut Trial) -> Option<bool> {
     match call {
         "fold_all" => folds::as_rows(case, trial)?,
-        "fold_series" => folds::of_series(case, trial)?,
         "fold_documents" => folds::as_documents(case, trial)?,
         "check_interval" => folds::check(case, trial)?,
         "rising" => rises::rising(case, trial)?,

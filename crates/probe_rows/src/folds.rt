@@ -1,7 +1,5 @@
 //! Rows folded by intervals, in one round and in two.
-ghost use Rattle.std.specs.Prelude.{◌≡◌, ◌≤◌, false, IfSome, IsTrue};
-ghost use Rattle.downsample_fold.specs.Conditions.{AreOfOneSeries};
-ghost use Rattle.row_cells.specs.Each.{Each};
+ghost use Rattle.std.specs.Prelude.{◌≡◌, ◌≤◌, false, IfSome};
 ghost use Rattle.row_cells.specs.Fitting.{Fits, folded_form};
 ghost use Rattle.row_cells.specs.KeyedRows.{AreRowsOf};
 ghost use Rattle.row_cells.specs.RowLists.{AllFit, AreInRowOrder, documents};
@@ -11,9 +9,9 @@ ghost use Rattle.ts_mapping.specs.Schemas.{IsTemplateSchema};
 use crate::documents::ascending_text;
 use crate::rows::{case_rows, schema_at};
 use crate::shown::ok_rows;
-use downsample_fold::{IntervalError, check_interval, fold_all, fold_series};
+use downsample_fold::{IntervalError, check_interval, fold_all};
 use probe_case::{Trial, has};
-use row_cells::{Key, Row, Schema, copy_schema};
+use row_cells::{Row, Schema, copy_schema};
 use serde_json::Value;
 use std::alloc::Global;
 use synthetic_source::rebuild;
@@ -109,55 +107,6 @@ pub fn as_rows(case: &Value, trial: &mut Trial) -> Option<()> {
     let folded = folded_schema(trial.alloc, &schema)?;
     let rows = folded_rows(trial.alloc, &schema, &folded, case)?;
     ok_rows(&folded, rows.as_slice(), trial);
-    Some(())
-}
-
-fn has_key(row: &Row, key: &Key) -> bool
-    ensures { IsTrue result → row.now.key ≡ key.now }
-{
-    row.key == *key
-}
-
-/// Whether all rows have a key.
-fn are_of_key(key: &Key, rows: &[Row]) -> bool
-    ensures { IsTrue result → Each (λ row. row.key ≡ key.now) rows.now }
-{
-    for row in rows {
-        if !has_key(row, key) {
-            return false;
-        }
-    }
-    true
-}
-
-/// Whether all rows are of one series.
-fn are_of_one_series(rows: &[Row]) -> bool
-    ensures { IsTrue result → AreOfOneSeries rows.now }
-{
-    match rows.split_first() {
-        None => true,
-        Some((first, behind)) => are_of_key(&first.key, behind),
-    }
-}
-
-/// The rows of one series folded by an interval.
-fn series_folded(alloc: Global, schema: &Schema, rows: &[Row], by: Interval) -> Option<Vec<Row>>
-    requires { AreRowsOf schema.now rows.now }
-{
-    if !are_of_one_series(rows) {
-        return None;
-    }
-    all_fit(schema, rows);
-    fold_series(alloc, schema, rows, by).ok()
-}
-
-/// The rows of one series folded by an interval.
-pub fn of_series(case: &Value, trial: &mut Trial) -> Option<()> {
-    let by = interval_at(case, "by")?;
-    let schema = schema_at(trial.alloc, case, "template")?;
-    let rows = case_rows(trial.alloc, &schema, case)?;
-    let folded = series_folded(trial.alloc, &schema, rows.as_slice(), by)?;
-    ok_rows(&schema, folded.as_slice(), trial);
     Some(())
 }
 
