@@ -25,7 +25,11 @@ life_is (Some retention) (Some rounds) life is = by_test (is_lifecycle (record {
     by_test true test is = subst IsLifecycle (some_is is) test
     by_test false test is = absurd (none_not_some is)
 
-pub bodies_are_lifecycles : (body : Data) (life : Lifecycle) → lifecycle_of body ≡ Some life → IsLifecycle life
+-- the rounds of a lifecycle that a body gives may follow one another, and are few
+abbrev pub BodiesAreLifecycles : Type 0
+BodiesAreLifecycles = (body : Data) (life : Lifecycle) → lifecycle_of body ≡ Some life → IsLifecycle life
+
+pub bodies_are_lifecycles : BodiesAreLifecycles
 unfolding lifecycle_of
 bodies_are_lifecycles body life is = by_test (has_no_other (codes "data_retention" ∷ codes "downsampling" ∷ []) body) is
   where

@@ -2,4 +2,5 @@ pub mod Bodies
 pub mod BodyLaws
 pub mod Ends
 pub mod Lifecycles
+pub mod Limits
 pub mod Plan

@@ -4,6 +4,7 @@ use Rattle.std.specs.Option.{is_none}
 use Rattle.time_text.specs.Interval.{ms_of}
 use Rattle.downsample_fold.specs.Intervals.{interval_fault}
 use Rattle.lifecycle_swap.specs.declared.lifecycles.Round.{Round}
+use Rattle.lifecycle_swap.specs.Limits.{most_rounds}
 use Rattle.lifecycle_swap.specs.declared.lifecycles.Lifecycle.{Lifecycle}
 
 -- a round may follow another: it comes later, and its interval is a strictly greater multiple
@@ -18,9 +19,9 @@ abbrev pub follow : List Round → Bool
 follow [] = true
 follow (first ∷ rest) = follow_after first rest
 
--- at most ten rounds, each of which may follow the one before
+-- no more rounds than there may be, each of which may follow the one before
 abbrev pub is_lifecycle : Lifecycle → Bool
-is_lifecycle life = nat_le (length life.rounds) 10 && follow life.rounds
+is_lifecycle life = nat_le (length life.rounds) most_rounds && follow life.rounds
 
 abbrev pub IsLifecycle : Lifecycle → Type 0
 IsLifecycle life = is_lifecycle life ≡ true

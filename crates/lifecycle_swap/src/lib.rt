@@ -2,9 +2,11 @@
 #![tactic(auto)]
 
 mod ends;
+mod laws;
 mod lifecycles;
 mod planning;
 
 pub use ends::end_after;
+pub use laws::bodies_are_lifecycles;
 pub use lifecycles::{Lifecycle, Round};
 pub use planning::{IndexFacts, Step, plan};
