@@ -1,6 +1,7 @@
 pub mod Asked
 pub mod AskedLaws
 pub mod Body
+pub mod Bytes
 pub mod Form
 pub mod Message
 pub mod Path

@@ -1,5 +1,5 @@
 //! Requests.
-ghost use Rattle.std.specs.Prelude.{◌≡◌, ◌≢◌, ◌≤◌, length, IfOk, IfErr, Ok, Err};
+ghost use Rattle.std.specs.Prelude.{◌≡◌, ◌≢◌, ◌≤◌, ℕ, List, length, IfOk, IfErr, Ok, Err};
 ghost use Rattle.std.specs.Option.{option_map};
 ghost use Rattle.serde_json.specs.View.{view};
 ghost use Rattle.rest_request.specs.Target.{cut, split_target as split_target_at};
@@ -8,7 +8,7 @@ ghost use Rattle.edge_face.specs.Limits.{body_limit};
 ghost use Rattle.rest_request.specs.Asked.{IsAsked};
 ghost use Rattle.rest_request.specs.Message.{seen};
 ghost use Rattle.rest_request.specs.Steps.{bare_of, full_of, optional_of_form, message_of, request_by};
-ghost use Rattle.rest_request.specs.Table.{request_of};
+ghost use Rattle.rest_request.specs.Table.{on_message, request_of};
 
 use crate::body::{is_nothing, object};
 use crate::form::{Bare, Form, Full, Optional, form_of};
@@ -190,8 +190,51 @@ fn optional_request(
     }
 }
 
-/// The request of a form, or none where the body isn't one that the form takes.
+/// The request of a form, or none where the body isn't one that the form takes. A bulk request has a copy of the body.
 fn request_for(
+    alloc: Global,
+    form: Form,
+    first: &str,
+    second: &str,
+    body: &[u8],
+) -> Result<Option<Request>, NoMemory>
+    ensures { IfOk result (λ found. option_map seen found ≡ message_of form first.now second.now body.now) }
+{
+    match form {
+        Form::Bare(form) => {
+            if !is_nothing(body) {
+                return Ok(None);
+            }
+            Ok(Some(bare_request(alloc, form, first, second)?))
+        }
+        Form::Full(form) => {
+            let Some(tree) = object(alloc, body)? else {
+                return Ok(None);
+            };
+            Ok(Some(full_request(alloc, form, first, second, tree)?))
+        }
+        Form::Optional(form) => {
+            if body.is_empty() {
+                return Ok(Some(optional_request(alloc, form, first, None)?));
+            }
+            let Some(tree) = object(alloc, body)? else {
+                return Ok(None);
+            };
+            Ok(Some(optional_request(alloc, form, first, Some(tree))?))
+        }
+        Form::Bulk => Ok(Some(Request::Bulk {
+            stream: None,
+            body: Bytes::new(alloc, body)?,
+        })),
+        Form::StreamBulk => Ok(Some(Request::Bulk {
+            stream: Some(Text::new(alloc, first)?),
+            body: Bytes::new(alloc, body)?,
+        })),
+    }
+}
+
+/// The same with a body that is moved: a bulk request has it as it is.
+fn request_with(
     alloc: Global,
     form: Form,
     first: &str,
@@ -201,27 +244,6 @@ fn request_for(
     ensures { IfOk result (λ found. option_map seen found ≡ message_of form first.now second.now body.items) }
 {
     match form {
-        Form::Bare(form) => {
-            if !is_nothing(alloc, body.as_slice())? {
-                return Ok(None);
-            }
-            Ok(Some(bare_request(alloc, form, first, second)?))
-        }
-        Form::Full(form) => {
-            let Some(tree) = object(alloc, body.as_slice())? else {
-                return Ok(None);
-            };
-            Ok(Some(full_request(alloc, form, first, second, tree)?))
-        }
-        Form::Optional(form) => {
-            if body.is_empty() {
-                return Ok(Some(optional_request(alloc, form, first, None)?));
-            }
-            let Some(tree) = object(alloc, body.as_slice())? else {
-                return Ok(None);
-            };
-            Ok(Some(optional_request(alloc, form, first, Some(tree))?))
-        }
         Form::Bulk => Ok(Some(Request::Bulk {
             stream: None,
             body: Bytes::from_vec(body),
@@ -230,19 +252,25 @@ fn request_for(
             stream: Some(Text::new(alloc, first)?),
             body: Bytes::from_vec(body),
         })),
+        Form::Bare(_) | Form::Full(_) | Form::Optional(_) => {
+            request_for(alloc, form, first, second, body.as_slice())
+        }
     }
 }
 
-// What a whole message is.
+/// What a target is asked for by a method: the form, and the names in its path.
+#[derive(Clone, Copy)]
+struct Asked<'a> {
+    form: Form,
+    first: &'a str,
+    second: &'a str,
+}
+
+// What a message asks for, before its body is looked at.
 #[tactic(auto, unfolding(crate::specs::Steps::request_by))]
-fn request_in(
-    alloc: Global,
-    method: &str,
-    target: &str,
-    body: Vec<u8>,
-) -> Result<Request, RequestError>
-    ensures request { IfOk result (λ request. request_by method.now target.now body.items ≡ Ok (seen request)) }
-    ensures refused { IfErr result (λ e. e ≢ RequestError.NoMemory → request_by method.now target.now body.items ≡ Err e) }
+fn asked_of<'a>(alloc: Global, method: &str, target: &'a str) -> Result<Asked<'a>, RequestError>
+    ensures asked { IfOk result (λ a. (body : List ℕ) → request_by method.now target.now body ≡ on_message (message_of a.form a.first.now a.second.now body)) }
+    ensures refused { IfErr result (λ e. e ≢ RequestError.NoMemory → (body : List ℕ) → request_by method.now target.now body ≡ Err e) }
 {
     let (path, query) = split_target(target);
     let Some(place) = place_of(path) else {
@@ -254,7 +282,42 @@ fn request_in(
     if !are_known(alloc, query)? {
         return Err(RequestError::BadParameter);
     }
-    match request_for(alloc, form, place.first, place.second, body)? {
+    Ok(Asked {
+        form,
+        first: place.first,
+        second: place.second,
+    })
+}
+
+// What a whole message is.
+fn request_in(
+    alloc: Global,
+    method: &str,
+    target: &str,
+    body: Vec<u8>,
+) -> Result<Request, RequestError>
+    ensures request { IfOk result (λ request. request_by method.now target.now body.items ≡ Ok (seen request)) }
+    ensures refused { IfErr result (λ e. e ≢ RequestError.NoMemory → request_by method.now target.now body.items ≡ Err e) }
+{
+    let asked = asked_of(alloc, method, target)?;
+    match request_with(alloc, asked.form, asked.first, asked.second, body)? {
+        Some(request) => Ok(request),
+        None => Err(RequestError::BadBody),
+    }
+}
+
+// The same of a body that is copied where the request has it.
+fn request_over(
+    alloc: Global,
+    method: &str,
+    target: &str,
+    body: &[u8],
+) -> Result<Request, RequestError>
+    ensures request { IfOk result (λ request. request_by method.now target.now body.now ≡ Ok (seen request)) }
+    ensures refused { IfErr result (λ e. e ≢ RequestError.NoMemory → request_by method.now target.now body.now ≡ Err e) }
+{
+    let asked = asked_of(alloc, method, target)?;
+    match request_for(alloc, asked.form, asked.first, asked.second, body)? {
         Some(request) => Ok(request),
         None => Err(RequestError::BadBody),
     }
@@ -280,7 +343,8 @@ pub fn read_body_request(
     Ok(request)
 }
 
-/// The request that a method, a target and a body are, as [`read_body_request`] gives it; its body is a copy.
+/// The request that a method, a target and a body are, as [`read_body_request`] gives it. The body is looked at last, and copied
+/// for a bulk request alone.
 pub fn read_request(
     alloc: Global,
     method: &str,
@@ -291,6 +355,6 @@ pub fn read_request(
     ensures asked { length body.now ≤ body_limit → IfOk result (λ request. IsAsked (seen request)) }
     ensures refused { IfErr result (λ e. e ≢ RequestError.NoMemory → request_of method.now target.now body.now ≡ Err e) }
 {
-    let request = read_body_request(alloc, method, target, body.to_vec(alloc)?)?;
+    let request = request_over(alloc, method, target, body)?;
     Ok(request)
 }
