@@ -6,11 +6,10 @@ use Rattle.std.specs.Ordering.{int_eq}
 use Rattle.std.specs.Str.{bytes_eq}
 use Rattle.std.specs.Cmp.{signed_Decides}
 use Rattle.std.proofs.Common.{refl, ap, sym, subst, ◌∙◌, arith, get_or, lt-ltb}
-use Rattle.std.proofs.lemmas.Bool.{ltb-false, le-ltb}
+use Rattle.std.proofs.lemmas.Bool.{le-ltb}
 use Rattle.std.proofs.lemmas.Int.{ints}
 use Rattle.std.proofs.lemmas.List.{length-map}
 use Rattle.std.proofs.lemmas.Option.{slice_get_within}
-use borrow.Author.Tests.{ltb-true}
 use Rattle.row_cells.specs.RowLists.{AreInRowOrder}
 use Rattle.row_cells.specs.declared.schemas.Schema.{Schema}
 use Rattle.column_block.specs.declared.kinds.Values.{Values}
@@ -21,8 +20,10 @@ use Rattle.index_segment.specs.Directory.{row_keys}
 use Rattle.index_segment.specs.Looks.{is_at}
 use Rattle.index_segment.specs.Order.{NoneIs, Stands}
 use Rattle.index_segment.specs.Spelling.{times_of}
-use Rattle.index_segment.proofs.Runs.{bytes_eq_itself, bytes_eq_other}
+use Rattle.index_segment.proofs.Runs.{bytes_eq_itself}
 use Rattle.index_segment.proofs.Scanned.{falling, key_at, row_at, time_at}
+use Rattle.row_cells.specs.WidenLaws.{other_bytes}
+use Rattle.index_segment.proofs.Lists.{by_nat}
 
 -- ---- the first that passes
 
@@ -55,7 +56,7 @@ position_none p xs none = by_place p xs (length xs) (none_len p xs none) ∙ ap 
 
 module _ (key : List ℕ) (time : ℤ) (r : Row) where
   other_key : (r.key ≡ key → ⊥) → is_at key time r ≡ false
-  other_key other = ap (λ b. b && int_eq r.time time) (bytes_eq_other r.key key other)
+  other_key other = ap (λ b. b && int_eq r.time time) (other_bytes r.key key other)
 
   other_time : (r.time ≡ time → ⊥) → is_at key time r ≡ false
   other_time other = go (bytes_eq r.key key) (int_eq r.time time) refl
@@ -72,13 +73,6 @@ pub none_at : (rows : List Row) (key : List ℕ) (time : ℤ) → NoneIs (row_ke
 none_at rows key time none = position_none (is_at key time) rows (λ k r there. other_key key time r (λ same. none k (omega (arith, slice_get_within rows k r there, length-map rows (λ row. row.key))) (key_at rows k r there ∙ same)))
 
 module _ (rows : List Row) (key : List ℕ) (time : ℤ) (a b c : ℕ) (in_order : AreInRowOrder rows) (s : Stands (row_keys rows) key a b) where
-  by_nat : {P : Type 0} (k n : ℕ) → (k < n → P) → (n ≤ k → P) → P
-  by_nat {P} k n less more = go (nat_lt k n) refl
-    where
-      go : (v : Bool) → nat_lt k n ≡ v → P
-      go true is = less (ltb-true k n is)
-      go false is = more (ltb-false k n is)
-
   abbrev time_of : ℕ → ℤ
   time_of k = get_or (times_of rows) k (pos 0)
 

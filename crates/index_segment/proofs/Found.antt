@@ -1,7 +1,7 @@
 -- Where a key stands among keys that ascend.
 use Rattle.std.specs.Prelude.{◌≡◌, ◌≢◌, ℕ, zero, suc, ◌+◌, ◌<◌, ◌≤◌, nat_lt, Bool, true, false, cond, Option, Some, None, List, [], ◌∷◌, length}
 use Rattle.std.specs.List.{slice_get}
-use Rattle.std.specs.Ordering.{nat_cmp, is_eq, is_gt, ordering_reverse}
+use Rattle.std.specs.Ordering.{nat_cmp, is_gt, ordering_reverse}
 use Rattle.std.specs.Cmp.Lexicographic.{slice_cmp}
 use Rattle.std.specs.Str.{bytes_eq}
 use Rattle.std.specs.declared.cmp.Ordering.{Ordering}
@@ -11,32 +11,25 @@ use Rattle.std.proofs.lemmas.Bool.{ltb-false}
 use Rattle.std.proofs.lemmas.Cmp.{nat_list_cmp_total, tied_itself}
 use Rattle.std.proofs.lemmas.List.{get_or_default}
 use Rattle.std.proofs.lemmas.Option.{slice_get_past, get_or_from_slice_get, slice_get-get_or}
-use Rattle.std.proofs.lemmas.Map.Text.{is_eq-slice_cmp}
 use borrow.Author.Tests.{ltb-true}
 use Rattle.index_segment.specs.Looks.{first_behind, is_behind}
 use Rattle.index_segment.specs.Order.{Ascend}
-use Rattle.index_segment.proofs.Runs.{bytes_eq_differ, bytes_eq_same}
+use Rattle.index_segment.proofs.Runs.{bytes_eq_differ, bytes_eq_same, same_key}
+use Rattle.row_cells.specs.WidenLaws.{apart}
+use Rattle.index_segment.proofs.Lists.{by_nat}
 
 pub by_le : {P : Type 0} (a b : ℕ) → a ≤ b → (a ≡ b → P) → (a < b → P) → P
-by_le {P} a b below same less = go (nat_lt a b) refl
-  where
-    go : (v : Bool) → nat_lt a b ≡ v → P
-    go true is = less (ltb-true a b is)
-    go false is = same (omega (arith, below, ltb-false a b is))
+by_le a b below same less = by_nat a b less (λ from. same (omega (arith, below, from)))
 
 abbrev order : List ℕ → List ℕ → Ordering
 order a b = slice_cmp nat_cmp a b
-
--- a list is no other that it compares with
-pub not_less : (a b : List ℕ) → order a b ≡ Less → a ≡ b → ⊥
-not_less a b less same = cc (tied_itself nat_list_cmp_total b)
 
 greater : (a b : List ℕ) → (order a b ≡ Less → ⊥) → (a ≡ b → ⊥) → order a b ≡ Greater
 greater a b less same = go (order a b) refl
   where
     go : (o : Ordering) → order a b ≡ o → o ≡ Greater
     go Less is = absurd (less is)
-    go Equal is = absurd (same (bytes_eq_same a b (sym (is_eq-slice_cmp a b) ∙ ap is_eq is)))
+    go Equal is = absurd (same (same_key a b is))
     go Greater is = refl
 
 module _ (keys : List (List ℕ)) (key : List ℕ) (ascend : Ascend keys) where
@@ -56,7 +49,7 @@ module _ (keys : List (List ℕ)) (key : List ℕ) (ascend : Ascend keys) where
   not_found n before behind other k there same = go (nat_lt k n) refl
     where
       go : (v : Bool) → nat_lt k n ≡ v → ⊥
-      go true is = not_less (get_or keys k []) key (before k (ltb-true k n is)) same
+      go true is = apart (get_or keys k []) key (before k (ltb-true k n is)) same
       go false is = by_le n k (ltb-false k n is)
           (λ at. other (omega (arith, at, there)) (ap (λ i. get_or keys i []) at ∙ same))
           (λ below. behind n (omega arith) (omega (arith, below, there)) (subst (λ t. order (get_or keys n []) t ≡ Less) same (ascend n k below there)))

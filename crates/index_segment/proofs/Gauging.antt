@@ -19,11 +19,11 @@ use Rattle.row_cells.specs.declared.rows.Cell.{Cell}
 use Rattle.row_cells.specs.declared.rows.Cell.TheVariants.{Absent, One, Many, Gauge as GaugeCell, Rise as RiseCell}
 use Rattle.row_cells.specs.declared.rows.Row.{Row}
 use Rattle.row_cells.specs.Fitting.{CellFits, FoldedGaugeFits, RawGaugeFits, GaugeFits}
-use Rattle.row_cells.specs.Merging.{parts_of as cell_parts}
+use Rattle.row_cells.specs.Merging.{parts_of as cell_parts, parts_of_value}
 use Rattle.column_block.specs.declared.kinds.Values.{Values}
 use Rattle.column_block.specs.declared.kinds.Values.TheVariants as values
 use Rattle.column_block.specs.Presence.{present}
-use Rattle.column_block.specs.Ranges.{rows_between, parts_of, parts_of_one}
+use Rattle.column_block.specs.Ranges.{rows_between, parts_of}
 use Rattle.index_segment.specs.declared.forms.Form.{Form}
 use Rattle.index_segment.specs.Cells.{whole_in, parts_in}
 use Rattle.index_segment.specs.Columns.{cell_at, columns_from, columns_of, columns_of_cells}
@@ -32,16 +32,18 @@ use Rattle.index_segment.specs.Looks.{IsGaugeAt, gauge_at, gauge_of}
 use Rattle.row_cells.specs.KeyedRows.{AreRowsOf, IsRowOf}
 use Rattle.index_segment.proofs.Fit.{FitFrom, FitHere, rows_here, rows_behind, rows_first}
 use Rattle.index_segment.proofs.Restored.{behind, width_is}
-use Rattle.index_segment.proofs.Scanned.{range_two, take_map}
-use Rattle.index_segment.proofs.Ranged.{each_range}
+use Rattle.index_segment.proofs.Scanned.{range_two}
 use Rattle.index_segment.proofs.Lists.{some_is}
+use Rattle.column_block.specs.EachLaws.{each-range}
+use Rattle.std.proofs.lemmas.List.{take-map}
+use Rattle.index_segment.proofs.HeldRows.{forms_in}
 
 -- ---- the place of a field's columns
 
 pub widths_before : (f : Field → Form) (fields items : List Field) (place index columns : ℕ) → items ≡ take place fields → length items ≤ index → columns + widths (map f (drop index items)) ≡ widths (map f items) → columns ≡ widths (take place (map f fields))
 widths_before f fields items place index columns items_is end is =
     let none : widths (map f (drop index items)) ≡ 0 = ap (λ xs. widths (map f xs)) (drop_of_length-le items end) in
-    let all : widths (map f items) ≡ widths (take place (map f fields)) = ap (λ xs. widths (map f xs)) items_is ∙ ap widths (sym (take_map f place fields)) in
+    let all : widths (map f items) ≡ widths (take place (map f fields)) = ap (λ xs. widths (map f xs)) items_is ∙ ap widths (sym (take-map f place fields)) in
     omega (arith, none, all, is)
 
 -- ---- a field's column
@@ -79,9 +81,6 @@ gauge_fits folded rises f place (row ∷ rows) role all = (one f.role role all.0
     one Dimension is fit = cc
     one Counter is fit = cc
     one Label is fit = cc
-
-abbrev forms_in : Bool → Bool → List Field → List Form
-forms_in folded rises fs = map (λ f. form_of folded rises f.kind f.role) fs
 
 gauge_column : (schema : Schema) (fs : List Field) (p place : ℕ) (rows : List Row) → Each (IsRowOf schema) rows → IsGaugeAt fs place → Each (FitFrom schema.folded schema.rises fs p) rows → GaugeColumn schema.folded schema.rises rows (p + place) (slice_get (columns_from p (forms_in schema.folded schema.rises fs) rows) (widths (take place (forms_in schema.folded schema.rises fs))))
 gauge_column schema [] p place rows each is all = absurd is
@@ -130,11 +129,11 @@ more_parts None ps = refl
 more_parts (Some p) ps = refl
 
 abbrev folded_wholes : List (Option ℤ) → Gauge
-folded_wholes vs = fold_of no_gauge merge_gauges gauge_of_one (map parts_of_one (present vs))
+folded_wholes vs = fold_of no_gauge merge_gauges gauge_of_one (map parts_of_value (present vs))
 
 whole_parts : Option ℤ → Option Parts
 whole_parts None = None
-whole_parts (Some v) = Some (parts_of_one v)
+whole_parts (Some v) = Some (parts_of_value v)
 
 more_wholes : (v : Option ℤ) (vs : List (Option ℤ)) (p : Option Parts) → p ≡ whole_parts v → folded_wholes (v ∷ vs) ≡ merge_gauges (gauge_with p) (folded_wholes vs)
 unfolding whole_parts
@@ -206,7 +205,7 @@ gauge_is schema rows field i j column are gauge at =
     let same : column ≡ gauge_values schema.folded c.kind (map (cell_at field) rows) = some_is (at ∙ c.is) in
     let Q : Row → Type 0 = λ row. GaugeFits schema.folded c.kind row.count (cell_at field row) in
     ap (λ v. fold_of no_gauge merge_gauges gauge_of_one (parts_of (rows_between i j v))) same
-    ∙ fold_range field schema.folded c.kind rows i j (each_range Q rows i j c.fits)
+    ∙ fold_range field schema.folded c.kind rows i j (each-range Q rows i j c.fits)
 
 pub no_column : (schema : Schema) (rows : List Row) (field : ℕ) → AreRowsOf schema rows → IsGaugeAt schema.fields field → None ≡ slice_get (columns_of schema rows) (widths (take field (forms_of schema))) → ⊥
 no_column schema rows field are gauge at = cc ((column_there schema rows field are gauge).is)

@@ -4,14 +4,13 @@ use Rattle.std.specs.Str.{bytes_eq}
 use Rattle.std.specs.List.{slice_get}
 use Rattle.std.proofs.Common.{refl, ap, sym, subst, ◌∙◌, arith, get_or}
 use Rattle.std.proofs.lemmas.Int.{ints}
-use Rattle.std.proofs.lemmas.List.{length-append, length-map}
-use Rattle.std.proofs.Math.Seq.{drop-append_seam}
+use Rattle.std.proofs.lemmas.List.{length-append, length-map, drop-drop}
+use Rattle.std.proofs.Math.Seq.{drop-append_seam, take-append_seam}
 use Rattle.row_cells.specs.declared.schemas.Schema.{Schema}
 use Rattle.row_cells.specs.declared.rows.Row.{Row}
 use Rattle.row_cells.specs.declared.rows.Cell.{Cell}
 use Rattle.row_cells.specs.RowLists.{documents}
 use Rattle.column_pack.specs.Summary.{total_of}
-use Rattle.packed_lists.specs.Laws.Fronts.{one-nums}
 use Rattle.column_block.specs.Ranges.{rows_between}
 use Rattle.column_block.specs.declared.kinds.Values.{Values}
 use Rattle.index_segment.specs.declared.forms.Form.{Form}
@@ -21,14 +20,16 @@ use Rattle.index_segment.specs.Forms.{form_of, forms_of, width_of, widths}
 use Rattle.row_cells.specs.Heads.{heads_in}
 use Rattle.index_segment.specs.Held.{Packs, series_rows}
 use Rattle.index_segment.specs.Order.{Stands}
-use Rattle.index_segment.specs.Spelling.{AreColumns, IsFront, IsSegmentOf, counted, counts_of, head_bytes, times_of}
+use Rattle.index_segment.specs.Spelling.{AreColumns, IsFront, IsSegmentOf, counts_of}
 use Rattle.index_segment.proofs.HeldRows.{spread_rows}
 use Rattle.index_segment.proofs.Packable.{rows_short}
 use Rattle.index_segment.proofs.Places.{sizes_long}
-use Rattle.index_segment.proofs.Remade.{key_there, total_all, total_next}
+use Rattle.index_segment.proofs.Remade.{total_all, total_next}
 use Rattle.index_segment.proofs.Restored.{width_is}
-use Rattle.index_segment.proofs.Scanned.{keys_in_series, made_range, range_map}
+use Rattle.index_segment.proofs.Scanned.{keys_in_series, parts_long, series_made}
 use Rattle.index_segment.proofs.Series.{keys_ascend, stands, start_at, starts_long}
+use Rattle.index_segment.proofs.Alike.{one_front}
+use Rattle.std.proofs.lemmas.Option.{slice_get-get_or}
 
 -- ---- each series has a row
 
@@ -87,7 +88,7 @@ pub stands_at : (schema : Schema) (rows : List Row) (keys : List (List ℕ)) (st
 stands_at schema rows keys starts sizes times counts columns p s less =
     let key = get_or (keys_of rows) s [] in
     let next : suc s ≡ s + 1 = omega arith in
-    let here = stands (keys_of rows) (sizes_of rows) s key (keys_ascend rows p.rows_are.in_order) (sizes_long rows) (key_there (keys_of rows) s less) in
+    let here = stands (keys_of rows) (sizes_of rows) s key (keys_ascend rows p.rows_are.in_order) (sizes_long rows) (slice_get-get_or (keys_of rows) s [] less) in
     subst (λ n. Stands (row_keys rows) key (total s (sizes_of rows)) (total n (sizes_of rows))) next (subst (λ ks. Stands ks key (total s (sizes_of rows)) (total (suc s) (sizes_of rows))) (spread_rows rows) here)
 
 module _ (schema : Schema) (rows : List Row) (keys : List (List ℕ)) (starts : List ℕ) (sizes times counts : List ℤ) (columns : List Values) (p : Packs schema rows keys starts sizes times counts columns) where
@@ -113,44 +114,27 @@ module _ (schema : Schema) (rows : List Row) (keys : List (List ℕ)) (starts : 
 
   pub parts_same : (i j : ℕ) (ts cs : List ℤ) → ts ≡ slice_range times i j → cs ≡ slice_range counts i j → length cs ≡ length ts
   parts_same i j ts cs ts_is cs_is =
-      let part = slice_range rows i j in
-      let a : length ts ≡ length part = ap length (ts_is ∙ (ap (λ xs. slice_range xs i j) p.times_are ∙ range_map (λ row. row.time) rows i j)) ∙ length-map part (λ row. row.time) in
-      let b : length cs ≡ length part = ap length (cs_is ∙ (ap (λ xs. slice_range xs i j) p.counts_are ∙ range_map (λ row. pos row.count) rows i j)) ∙ length-map part (λ row. pos row.count) in
-      b ∙ sym a
+      parts_long rows i j ts cs (ts_is ∙ ap (λ xs. slice_range xs i j) p.times_are) (cs_is ∙ ap (λ xs. slice_range xs i j) p.counts_are)
 
   -- rows of one series, put together from columns
   pub piece_is : (s i j : ℕ) (key : List ℕ) (forms : List Form) (heads : List Cell) (cols : List Values) (ts cs : List ℤ) → s < length (keys_of rows) → total s (sizes_of rows) ≤ i → j ≤ total (s + 1) (sizes_of rows)
       → key ≡ get_or (keys_of rows) s [] → forms ≡ forms_of schema → heads ≡ heads_in schema.fields key → cols ≡ map (rows_between i j) columns → ts ≡ slice_range times i j → cs ≡ slice_range counts i j
       → series_rows key forms heads cols 0 ts cs ≡ slice_range rows i j
   piece_is s i j key forms heads cols ts cs less start end key_is forms_is heads_is cols_is ts_is cs_is =
-      let c : cols ≡ map (rows_between i j) (columns_of schema rows) = cols_is ∙ ap (map (rows_between i j)) p.columns_are in
-      let t : ts ≡ slice_range (times_of rows) i j = ts_is ∙ ap (λ xs. slice_range xs i j) p.times_are in
-      let n : cs ≡ slice_range (counts_of rows) i j = cs_is ∙ ap (λ xs. slice_range xs i j) p.counts_are in
       let here : Stands (row_keys rows) key (total s (sizes_of rows)) (total (s + 1) (sizes_of rows)) = subst (λ k. Stands (row_keys rows) k (total s (sizes_of rows)) (total (s + 1) (sizes_of rows))) (sym key_is) (stands_at schema rows keys starts sizes times counts columns p s less) in
-      ap (λ x. series_rows key x heads cols 0 ts cs) forms_is
-      ∙ (ap (λ x. series_rows key (forms_of schema) x cols 0 ts cs) heads_is
-      ∙ (ap (λ x. series_rows key (forms_of schema) (heads_in schema.fields key) x 0 ts cs) c
-      ∙ (ap (λ x. series_rows key (forms_of schema) (heads_in schema.fields key) (map (rows_between i j) (columns_of schema rows)) 0 x cs) t
-      ∙ (ap (λ x. series_rows key (forms_of schema) (heads_in schema.fields key) (map (rows_between i j) (columns_of schema rows)) 0 (slice_range (times_of rows) i j) x) n
-      ∙ made_range schema rows key i j p.mapped p.rows_are.each (keys_in_series rows key _ _ i j here start end)))))
+      series_made schema rows key i j forms heads cols ts cs p.mapped p.rows_are.each (keys_in_series rows key _ _ i j here start end) forms_is heads_is
+      (cols_is ∙ ap (map (rows_between i j)) p.columns_are) (ts_is ∙ ap (λ xs. slice_range xs i j) p.times_are) (cs_is ∙ ap (λ xs. slice_range xs i j) p.counts_are)
 
 -- ---- the columns of a field
-
-dropped : (cs more : List Values) (n : ℕ) → drop (length cs + n) (cs ++ more) ≡ drop n more
-dropped [] more n = ap (λ m. drop m more) (omega arith)
-dropped (c ∷ cs) more n = ap (λ m. drop m (c ∷ (cs ++ more))) next ∙ dropped cs more n
-  where
-    next : length (c ∷ cs) + n ≡ suc (length cs + n)
-    next = omega arith
 
 ranged_behind : (cs more : List Values) (w a b : ℕ) → length cs ≡ w → slice_range (cs ++ more) (w + a) (w + b) ≡ slice_range more a b
 ranged_behind cs more w a b long =
     let less : (w + b) - (w + a) ≡ b - a = omega arith in
-    ap (λ n. take n (drop (w + a) (cs ++ more))) less ∙ ap (take (b - a)) (ap (λ n. drop (n + a) (cs ++ more)) (sym long) ∙ dropped cs more a)
+    ap (λ n. take n (drop (w + a) (cs ++ more))) less
+    ∙ ap (take (b - a)) (sym (drop-drop a w (cs ++ more)) ∙ ap (drop a) (ap (λ n. drop n (cs ++ more)) (sym long) ∙ drop-append_seam cs more))
 
 front_taken : (cs more : List Values) (n : ℕ) → length cs ≡ n → take n (cs ++ more) ≡ cs
-front_taken [] more n long = ap (λ m. take m more) (sym long)
-front_taken (c ∷ cs) more n long = ap (λ m. take m (c ∷ (cs ++ more))) (sym long) ∙ ap (λ xs. c ∷ xs) (front_taken cs more (length cs) refl)
+front_taken cs more n long = ap (λ m. take m (cs ++ more)) (sym long) ∙ take-append_seam cs more
 
 columns_from_at : (fs : List Form) (at place : ℕ) (rows : List Row) → place < length fs → slice_range (columns_from at fs rows) (widths (take place fs)) (widths (take (suc place) fs)) ≡ columns_of_cells (form_or_bare (slice_get fs place)) (map (cell_at (at + place)) rows)
 columns_from_at [] at place rows less = absurd (omega (arith, less))
@@ -199,17 +183,8 @@ columns_ordered fs field =
 
 -- ---- what stands behind the front of the bytes
 
-front_once : (rows : List Row) (a b : List ℕ) → IsFront rows a → IsFront rows b → a ≡ b
-front_once rows a b h k =
-    let head = head_bytes (length rows) (keys_of rows) in
-    h.joined
-    ∙ (ap (λ z. head ++ (z ++ (h.time_bytes ++ h.count_bytes))) (one-nums (counted (sizes_of rows)) h.size_bytes k.size_bytes h.sizes_are k.sizes_are)
-    ∙ (ap (λ z. head ++ (k.size_bytes ++ (z ++ h.count_bytes))) (one-nums (times_of rows) h.time_bytes k.time_bytes h.times_are k.times_are)
-    ∙ (ap (λ z. head ++ (k.size_bytes ++ (k.time_bytes ++ z))) (one-nums (counts_of rows) h.count_bytes k.count_bytes h.counts_are k.counts_are)
-    ∙ sym k.joined)))
-
 pub columns_behind : (schema : Schema) (rows : List Row) (columns : List Values) (bytes front : List ℕ) → columns ≡ columns_of schema rows → IsSegmentOf schema rows bytes → IsFront rows front → AreColumns columns (drop (length front) bytes)
 columns_behind schema rows columns bytes front are is front_is =
     let s = is.spelled in
-    let same : drop (length front) bytes ≡ s.back = ap (λ (z : List ℕ). drop (length z) bytes) (front_once rows front s.front front_is s.front_is) ∙ (ap (drop (length s.front)) s.joined ∙ drop-append_seam s.front s.back) in
+    let same : drop (length front) bytes ≡ s.back = ap (λ (z : List ℕ). drop (length z) bytes) (one_front rows front s.front front_is s.front_is) ∙ (ap (drop (length s.front)) s.joined ∙ drop-append_seam s.front s.back) in
     subst (λ c. AreColumns c (drop (length front) bytes)) (sym are) (subst (AreColumns (columns_of schema rows)) (sym same) s.back_is)

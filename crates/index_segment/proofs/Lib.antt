@@ -14,10 +14,8 @@ mod Many
 mod Mended
 mod Merged
 mod Packable
-mod Parted
 mod Picked
 mod Places
-mod Ranged
 mod Remade
 mod Restored
 mod Runs

@@ -1,6 +1,7 @@
 -- Any number of segments merged one after the other.
 use Rattle.std.specs.Prelude.{◌≡◌, ◌+◌, ◌≤◌, ◌++◌, List, [], ◌∷◌, map}
 use Rattle.std.specs.List.{flat_map}
+use Rattle.std.specs.declared.cmp.Ordering.TheVariants.{Equal}
 use Rattle.std.proofs.Common.{refl, ap, sym, subst, ◌∙◌, arith, append_assoc}
 use Rattle.std.proofs.lemmas.List.{append-nil}
 use Rattle.row_cells.specs.declared.schemas.Schema.{Schema}
@@ -10,9 +11,10 @@ use Rattle.row_cells.specs.EachLaws.{Each-all, Each-both}
 use Rattle.row_cells.specs.Limits.{most_documents}
 use Rattle.row_cells.specs.OrderLaws.{documents-in_row_order, in_row_order-ascends, in_row_order-each, in_row_order-same}
 use Rattle.row_cells.specs.PlaceLaws.{documents-append, each_append, in_row_order-append_left}
-use Rattle.row_cells.specs.RowLists.{documents, in_row_order}
+use Rattle.row_cells.specs.RowLists.{documents, in_row_order, AreApart}
 use Rattle.index_segment.specs.Held.{Held}
-use Rattle.index_segment.specs.Merging.{AreAllApart, AreApart}
+use Rattle.index_segment.specs.Merging.{AreAllApart}
+use Rattle.row_cells.specs.Order.{row_cmp}
 
 abbrev pub rows_in : List Held → List Row
 rows_in parts = flat_map (λ part. part.rows) parts
@@ -40,7 +42,7 @@ at_first schema parts merged is schemas apart few = rw is (record {
 
 both_apart : (a b rows : List Row) → AreApart a rows → AreApart b rows → AreApart (in_row_order (a ++ b)) rows
 both_apart a b rows first second =
-    let P : Row → Type 0 = λ r. Each (λ s. r.key ≡ s.key → r.time ≡ s.time → ⊥) rows in
+    let P : Row → Type 0 = λ r. Each (λ s. row_cmp r s ≡ Equal → ⊥) rows in
     in_row_order-each P (a ++ b) (each_append P a b first second)
 
 -- one more is merged

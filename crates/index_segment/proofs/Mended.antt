@@ -6,18 +6,18 @@ use Rattle.row_cells.specs.Limits.{most_documents}
 use Rattle.row_cells.specs.declared.schemas.Schema.{Schema}
 use Rattle.row_cells.specs.declared.rows.Row.{Row}
 use Rattle.row_cells.specs.Mapped.{IsMapped}
-use Rattle.row_cells.specs.RowLists.{documents, in_row_order}
+use Rattle.row_cells.specs.RowLists.{documents, in_row_order, AreApart}
 use Rattle.column_block.specs.declared.kinds.Values.{Values}
 use Rattle.index_segment.specs.Columns.{ArePackable, columns_of}
 use Rattle.index_segment.specs.declared.shares.Counts.{Counts}
 use Rattle.index_segment.specs.Directory.{Run, runs_of, row_keys, keys_of, sizes_of}
 use Rattle.index_segment.specs.Held.{Held, Packs}
 use Rattle.index_segment.specs.Joining.{keys_of_joints, rows_of_joints}
-use Rattle.index_segment.specs.Merging.{AreApart, Joint, Side, firsts, joined_series, joint_sizes, listed, picked, picked_columns, seconds, sides_of_series}
+use Rattle.index_segment.specs.Merging.{Joint, Side, firsts, joined_series, joint_sizes, listed, picked, picked_columns, seconds, sides_of_series}
 use Rattle.row_cells.specs.KeyedRows.{AreRowsOf, IsRowOf}
 use Rattle.index_segment.specs.Spelling.{counted, counts_of, times_of}
 use Rattle.index_segment.proofs.Fit.{rows_few}
-use Rattle.index_segment.proofs.Merged.{apart_differ, merged, merged_documents, merged_each, merged_in_order, merged_sorted}
+use Rattle.index_segment.proofs.Merged.{merged, merged_documents, merged_each, merged_in_order, merged_sorted}
 use Rattle.index_segment.proofs.Packable.{rows_packable}
 use Rattle.index_segment.proofs.Picked.{columns_long, columns_picked}
 use Rattle.index_segment.proofs.Sides.{picked_map}
@@ -78,12 +78,12 @@ module _ (schema : Schema) (a b : List Row) (are : AreRowsOf schema a) (are_too 
   joint = jointly (runs_of (row_keys a)) (runs_of (row_keys b)) a b (grouped a are.in_order) (grouped b are_too.in_order)
 
   is_merged : both a b ≡ merged a b
-  is_merged = merged_sorted a b are.in_order are_too.in_order (apart_differ a b apart)
+  is_merged = merged_sorted a b are.in_order are_too.in_order apart
 
   merged_are : AreRowsOf schema (merged a b)
   merged_are = record {
     each = merged_each (IsRowOf schema) a b are.each are_too.each;
-    in_order = merged_in_order a b are.in_order are_too.in_order (apart_differ a b apart);
+    in_order = merged_in_order a b are.in_order are_too.in_order apart;
     few = omega (arith, merged_documents a b, few);
   }
 

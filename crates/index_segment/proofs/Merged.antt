@@ -1,26 +1,20 @@
 -- Two lists of rows in row order as one, row by row.
-use Rattle.std.specs.Prelude.{◌≡◌, ◌≢◌, ℕ, ◌<ℤ◌, ◌+◌, cond, List, [], ◌∷◌, ◌++◌, length}
-use Rattle.std.specs.Ordering.{nat_cmp, int_cmp, is_eq, is_le, ordering_then, ordering_reverse, MatchOrdering}
-use Rattle.std.specs.Cmp.{IsTotalOrder, int_cmp_total, on_total, then_total, back_total}
+use Rattle.std.specs.Prelude.{◌≡◌, ℕ, ◌+◌, cond, List, [], ◌∷◌, ◌++◌, length}
+use Rattle.std.specs.Ordering.{nat_cmp, is_le, ordering_reverse}
 use Rattle.std.specs.Cmp.Lexicographic.{slice_cmp}
 use Rattle.std.specs.declared.cmp.Ordering.{Ordering}
 use Rattle.std.specs.declared.cmp.Ordering.TheVariants.{Less, Equal, Greater}
-use Rattle.std.proofs.Common.{refl, ap, sym, subst, ◌∙◌, arith}
-use Rattle.std.proofs.lemmas.Cmp.{nat_list_cmp_total, int_ranked}
-use Rattle.std.proofs.lemmas.Map.Text.{is_eq-slice_cmp}
+use Rattle.std.proofs.Common.{refl, ap, ◌∙◌, arith}
 use Rattle.row_cells.specs.declared.rows.Row.{Row}
 use Rattle.row_cells.specs.Each.{Each}
 use Rattle.row_cells.specs.EachLaws.{Each-weaker}
 use Rattle.row_cells.specs.Order.{row_cmp}
-use Rattle.row_cells.specs.RowLists.{AllAfter, AreInRowOrder, documents, in_row_order, insert_row}
-use Rattle.index_segment.specs.Merging.{AreApart, by_order}
-use Rattle.index_segment.proofs.Runs.{bytes_eq_same}
+use Rattle.row_cells.specs.RowLists.{AllAfter, AreInRowOrder, documents, in_row_order, insert_row, AreApart}
+use Rattle.index_segment.specs.Merging.{by_order}
+use Rattle.row_cells.specs.OrderLaws.{IsUpTo, row_cmp_total, upto_of_le, insert_first, in_row_order-same, in_order-ascends}
 
 abbrev pub key_cmp : List ℕ → List ℕ → Ordering
 key_cmp = slice_cmp nat_cmp
-
-pub row_total : IsTotalOrder row_cmp
-row_total = then_total (on_total (λ row. row.key) nat_list_cmp_total) (back_total (on_total (λ row. row.time) int_cmp_total))
 
 -- the rows of both, the earlier one in row order first
 abbrev pub merged : List Row → List Row → List Row
@@ -42,7 +36,7 @@ second_of Equal a b not = refl
 second_of Greater a b not = refl
 
 turned : (x y : Row) → row_cmp x y ≡ Less → row_cmp y x ≡ Greater
-turned x y less = row_total.antisymm y x ∙ ap ordering_reverse less
+turned x y less = row_cmp_total.antisymm y x ∙ ap ordering_reverse less
 
 -- ---- what holds of the rows of both
 
@@ -76,65 +70,37 @@ merged_length (x ∷ xs) (y ∷ ys) = go (row_cmp x y) (merged_length xs (y ∷ 
     go Equal left right = omega (arith, right)
     go Greater left right = omega (arith, right)
 
--- ---- rows of lists that are apart
-
-pub same_key : (a b : List ℕ) → key_cmp a b ≡ Equal → a ≡ b
-same_key a b is = bytes_eq_same a b (sym (is_eq-slice_cmp a b) ∙ ap is_eq is)
-
--- rows that compare alike are of one series and time
-alike : (x y : Row) → row_cmp x y ≡ Equal → (x.key ≡ y.key) × (x.time ≡ y.time)
-alike x y is = go (key_cmp x.key y.key) refl is
-  where
-    go : (o : Ordering) → key_cmp x.key y.key ≡ o → ordering_then o (int_cmp y.time x.time) ≡ Equal → (x.key ≡ y.key) × (x.time ≡ y.time)
-    go Less keys both = absurd cc
-    go Equal keys both = (same_key x.key y.key keys, sym (subst (λ o. MatchOrdering o (y.time <ℤ x.time) (y.time ≡ x.time) (x.time <ℤ y.time)) both (int_ranked y.time x.time (int_cmp y.time x.time) refl)))
-    go Greater keys both = absurd cc
-
-abbrev pub Differs : List Row → Row → Type 0
-Differs ys x = Each (λ y. row_cmp x y ≢ Equal) ys
-
-abbrev pub Differ : List Row → List Row → Type 0
-Differ xs ys = Each (Differs ys) xs
-
-pub apart_differ : (xs ys : List Row) → AreApart xs ys → Differ xs ys
-apart_differ xs ys apart = Each-weaker (λ a. Each (λ b. a.key ≡ b.key → a.time ≡ b.time → ⊥) ys) (Differs ys) (λ x each. Each-weaker (λ b. x.key ≡ b.key → x.time ≡ b.time → ⊥) (λ y. row_cmp x y ≢ Equal) (λ y other is. other (alike x y is).0 (alike x y is).1) ys each) xs apart
-
 all_after : (x y : Row) (rows : List Row) → row_cmp x y ≡ Less → AllAfter y rows → AllAfter x rows
-all_after x y rows less after = Each-weaker (λ next. row_cmp y next ≡ Less) (λ next. row_cmp x next ≡ Less) (λ z is. row_total.trans x y z less is) rows after
+all_after x y rows less after = Each-weaker (λ next. row_cmp y next ≡ Less) (λ next. row_cmp x next ≡ Less) (λ z is. row_cmp_total.trans x y z less is) rows after
 
 -- ---- order
 
-tails_differ : (xs : List Row) (y : Row) (ys : List Row) → Differ xs (y ∷ ys) → Differ xs ys
-tails_differ xs y ys differ = Each-weaker (Differs (y ∷ ys)) (Differs ys) (λ x each. each.1) xs differ
+tails_apart : (xs : List Row) (y : Row) (ys : List Row) → AreApart xs (y ∷ ys) → AreApart xs ys
+tails_apart xs y ys apart = Each-weaker (λ x. Each (λ z. row_cmp x z ≡ Equal → ⊥) (y ∷ ys)) (λ x. Each (λ z. row_cmp x z ≡ Equal → ⊥) ys) (λ x each. each.1) xs apart
 
-pub merged_in_order : (xs ys : List Row) → AreInRowOrder xs → AreInRowOrder ys → Differ xs ys → AreInRowOrder (merged xs ys)
+pub merged_in_order : (xs ys : List Row) → AreInRowOrder xs → AreInRowOrder ys → AreApart xs ys → AreInRowOrder (merged xs ys)
 merged_in_order [] ys ordered ordered_too differ = ordered_too
 merged_in_order (x ∷ xs) [] ordered ordered_too differ = ordered
-merged_in_order (x ∷ xs) (y ∷ ys) ordered ordered_too differ = go (row_cmp x y) refl (merged_in_order xs (y ∷ ys) ordered.1 ordered_too differ.1) (merged_in_order (x ∷ xs) ys ordered ordered_too.1 (tails_differ (x ∷ xs) y ys differ))
+merged_in_order (x ∷ xs) (y ∷ ys) ordered ordered_too differ = go (row_cmp x y) refl (merged_in_order xs (y ∷ ys) ordered.1 ordered_too differ.1) (merged_in_order (x ∷ xs) ys ordered ordered_too.1 (tails_apart (x ∷ xs) y ys differ))
   where
     go : (o : Ordering) → row_cmp x y ≡ o → AreInRowOrder (merged xs (y ∷ ys)) → AreInRowOrder (merged (x ∷ xs) ys) → AreInRowOrder (by_order o (x ∷ merged xs (y ∷ ys)) (y ∷ merged (x ∷ xs) ys) (y ∷ merged (x ∷ xs) ys))
     go Less is left right = (merged_each (λ next. row_cmp x next ≡ Less) xs (y ∷ ys) ordered.0 (is, all_after x y ys is ordered_too.0), left)
     go Equal is left right = absurd (differ.0.0 is)
     go Greater is left right =
-        let before : row_cmp y x ≡ Less = row_total.antisymm y x ∙ ap ordering_reverse is in
+        let before : row_cmp y x ≡ Less = row_cmp_total.antisymm y x ∙ ap ordering_reverse is in
         (merged_each (λ next. row_cmp y next ≡ Less) (x ∷ xs) ys (before, all_after y x xs before ordered.0) ordered_too.0, right)
 
 -- ---- the rows of both, sorted
 
 insert_front : (x : Row) (rows : List Row) → AllAfter x rows → insert_row x rows ≡ x ∷ rows
-insert_front x [] after = refl
-insert_front x (z ∷ rows) after = ap (λ o. cond (is_le o) (x ∷ z ∷ rows) (z ∷ insert_row x rows)) after.0
-
-sorted_stay : (rows : List Row) → AreInRowOrder rows → in_row_order rows ≡ rows
-sorted_stay [] ordered = refl
-sorted_stay (x ∷ rows) ordered = ap (insert_row x) (sorted_stay rows ordered.1) ∙ insert_front x rows ordered.0
+insert_front x rows after = insert_first x rows (Each-weaker (λ next. row_cmp x next ≡ Less) (IsUpTo x) (λ next less. upto_of_le x next Less less refl) rows after)
 
 -- where all of the first list stand behind a row of the second, that comes first
 pub second_first : (xs : List Row) (y : Row) (ys : List Row) → AllAfter y xs → merged xs (y ∷ ys) ≡ y ∷ merged xs ys
 second_first [] y ys after = refl
 second_first (x ∷ xs) y ys after = ap (λ o. by_order o (x ∷ merged xs (y ∷ ys)) (y ∷ merged (x ∷ xs) ys) (y ∷ merged (x ∷ xs) ys)) (turned y x after.0)
 
-inserted : (x : Row) (xs ys : List Row) → AllAfter x xs → Differs ys x → AreInRowOrder ys → insert_row x (merged xs ys) ≡ merged (x ∷ xs) ys
+inserted : (x : Row) (xs ys : List Row) → AllAfter x xs → Each (λ z. row_cmp x z ≡ Equal → ⊥) ys → AreInRowOrder ys → insert_row x (merged xs ys) ≡ merged (x ∷ xs) ys
 inserted x xs [] after differs ordered = ap (insert_row x) (merged_nothing xs) ∙ insert_front x xs after
 inserted x xs (y ∷ ys) after differs ordered = go (row_cmp x y) refl (inserted x xs ys after differs.1 ordered.1)
   where
@@ -142,11 +108,11 @@ inserted x xs (y ∷ ys) after differs ordered = go (row_cmp x y) refl (inserted
     go Less is rest = insert_front x (merged xs (y ∷ ys)) (merged_each (λ next. row_cmp x next ≡ Less) xs (y ∷ ys) after (is, all_after x y ys is ordered.0))
     go Equal is rest = absurd (differs.0 is)
     go Greater is rest =
-        let before : row_cmp y x ≡ Less = row_total.antisymm y x ∙ ap ordering_reverse is in
+        let before : row_cmp y x ≡ Less = row_cmp_total.antisymm y x ∙ ap ordering_reverse is in
         ap (insert_row x) (second_first xs y ys (all_after y x xs before after))
         ∙ (ap (λ o. cond (is_le o) (x ∷ y ∷ merged xs ys) (y ∷ insert_row x (merged xs ys))) is
         ∙ ap (λ rows. y ∷ rows) rest)
 
-pub merged_sorted : (xs ys : List Row) → AreInRowOrder xs → AreInRowOrder ys → Differ xs ys → in_row_order (xs ++ ys) ≡ merged xs ys
-merged_sorted [] ys ordered ordered_too differ = sorted_stay ys ordered_too
+pub merged_sorted : (xs ys : List Row) → AreInRowOrder xs → AreInRowOrder ys → AreApart xs ys → in_row_order (xs ++ ys) ≡ merged xs ys
+merged_sorted [] ys ordered ordered_too differ = in_row_order-same ys (in_order-ascends ys ordered_too)
 merged_sorted (x ∷ xs) ys ordered ordered_too differ = ap (insert_row x) (merged_sorted xs ys ordered.1 ordered_too differ.1) ∙ inserted x xs ys ordered.0 differ.0 ordered_too

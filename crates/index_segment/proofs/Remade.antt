@@ -1,8 +1,8 @@
 -- Rows from the parts that they have.
-use Rattle.std.specs.Prelude.{◌≡◌, ℕ, ℤ, pos, zero, suc, ◌+◌, ◌-◌, ◌<◌, ◌≤◌, Some, List, [], ◌∷◌, ◌++◌, map, length, take, drop, replicate, slice_range}
+use Rattle.std.specs.Prelude.{◌≡◌, ℕ, ℤ, pos, zero, suc, ◌+◌, ◌-◌, ◌≤◌, Some, List, [], ◌∷◌, ◌++◌, map, length, take, replicate, slice_range}
 use Rattle.std.specs.List.{slice_get}
 use Rattle.std.proofs.Common.{refl, ap, sym, subst, ◌∙◌, arith, get_or, length-append}
-use Rattle.std.proofs.lemmas.List.{length-map}
+use Rattle.std.proofs.lemmas.List.{length-map, take_all}
 use lib.ListN.{length-replicate}
 use Rattle.row_cells.specs.Limits.{most_documents}
 use Rattle.row_cells.specs.declared.schemas.Schema.{Schema}
@@ -12,7 +12,6 @@ use Rattle.row_cells.specs.Mapped.{IsMapped}
 use Rattle.column_block.specs.Ranges.{rows_between}
 use Rattle.column_block.specs.declared.kinds.Values.{Values}
 use Rattle.index_segment.specs.declared.forms.Form.{Form}
-use Rattle.index_segment.specs.Columns.{columns_of}
 use Rattle.index_segment.specs.Directory.{keys_of, row_keys, sizes_of, spread, total}
 use Rattle.index_segment.specs.Forms.{forms_of}
 use Rattle.row_cells.specs.Heads.{heads_in}
@@ -20,12 +19,13 @@ use Rattle.index_segment.specs.Held.{series_rows}
 use Rattle.index_segment.specs.Order.{Stands}
 use Rattle.index_segment.specs.Parts.{HaveParts}
 use Rattle.row_cells.specs.KeyedRows.{AreRowsOf}
-use Rattle.index_segment.specs.Spelling.{counted, counts_of, times_of}
+use Rattle.index_segment.specs.Spelling.{counted}
 use Rattle.index_segment.proofs.HeldRows.{spread_rows}
 use Rattle.index_segment.proofs.Packable.{rows_short}
 use Rattle.index_segment.proofs.Places.{sizes_long}
-use Rattle.index_segment.proofs.Scanned.{keys_of_series, made_range, range_map}
+use Rattle.index_segment.proofs.Scanned.{keys_of_series, parts_long, series_made}
 use Rattle.index_segment.proofs.Series.{keys_ascend, stands}
+use Rattle.std.proofs.Math.Seq.{take-add}
 
 pub total_next : (s : ℕ) (ns : List ℕ) → total (suc s) ns ≡ total s ns + get_or ns s 0
 total_next zero [] = refl
@@ -48,21 +48,7 @@ total_all (k ∷ ks) [] long = absurd (omega (arith, long))
 total_all (k ∷ ks) (n ∷ ns) long = ap (λ m. n + m) (total_all ks ns (omega (arith, long))) ∙ sym (length-append (replicate n k) (spread ks ns) ∙ ap (λ m. m + length (spread ks ns)) (length-replicate n k))
 
 pub take_on : {A : Type 0} (a b : ℕ) (xs : List A) → a ≤ b → take a xs ++ slice_range xs a b ≡ take b xs
-take_on zero b xs under = ap (λ n. take n xs) (omega arith)
-take_on (suc a) zero xs under = absurd (omega (arith, under))
-take_on (suc a) (suc b) [] under = nothing (suc b - suc a)
-  where
-    nothing : {A : Type 0} (n : ℕ) → take {A = A} n [] ≡ []
-    nothing zero = refl
-    nothing (suc n) = refl
-take_on (suc a) (suc b) (x ∷ xs) under = ap (λ n. x ∷ (take a xs ++ take n (drop a xs))) less ∙ ap (λ ys. x ∷ ys) (take_on a b xs (omega (arith, under)))
-  where
-    less : suc b - suc a ≡ b - a
-    less = omega arith
-
-take_all : {A : Type 0} (xs : List A) → take (length xs) xs ≡ xs
-take_all [] = refl
-take_all (x ∷ xs) = ap (λ ys. x ∷ ys) (take_all xs)
+take_on a b xs under = sym (take-add a (b - a) xs) ∙ ap (λ n. take n xs) (omega arith)
 
 module _ (schema : Schema) (rows : List Row) (keys : List (List ℕ)) (sizes times counts : List ℤ) (columns : List Values) (mapped : IsMapped schema) (are : AreRowsOf schema rows) (p : HaveParts schema rows keys sizes times counts columns) where
   pub rows_within : length times ≤ most_documents
@@ -74,7 +60,7 @@ module _ (schema : Schema) (rows : List Row) (keys : List (List ℕ)) (sizes tim
   pub all_made : (series start : ℕ) (made : List Row) → series ≡ length keys → start ≡ total series (sizes_of rows) → made ≡ take start rows → made ≡ rows
   all_made series start made series_is start_is made_is =
       let whole : start ≡ length rows = start_is ∙ (ap (λ n. total n (sizes_of rows)) (series_is ∙ ap length p.keys_are) ∙ (total_all (keys_of rows) (sizes_of rows) (sizes_long rows) ∙ (ap length (spread_rows rows) ∙ length-map rows (λ row. row.key)))) in
-      made_is ∙ (ap (λ n. take n rows) whole ∙ take_all rows)
+      made_is ∙ (ap (λ n. take n rows) whole ∙ take_all (length rows) rows (omega arith))
 
   module _ (series start : ℕ) (key : List ℕ) (there : slice_get keys series ≡ Some key) (start_is : start ≡ total series (sizes_of rows)) where
     stand : Stands (row_keys rows) key (total series (sizes_of rows)) (total (suc series) (sizes_of rows))
@@ -94,25 +80,10 @@ module _ (schema : Schema) (rows : List Row) (keys : List (List ℕ)) (sizes tim
 
     pub same_length : (end : ℕ) (ts cs : List ℤ) → ts ≡ slice_range times start end → cs ≡ slice_range counts start end → length cs ≡ length ts
     same_length end ts cs ts_is cs_is =
-        let part = slice_range rows start end in
-        let a : length ts ≡ length part = ap length (ts_is ∙ (ap (λ xs. slice_range xs start end) p.times_are ∙ range_map (λ row. row.time) rows start end)) ∙ length-map part (λ row. row.time) in
-        let b : length cs ≡ length part = ap length (cs_is ∙ (ap (λ xs. slice_range xs start end) p.counts_are ∙ range_map (λ row. pos row.count) rows start end)) ∙ length-map part (λ row. pos row.count) in
-        b ∙ sym a
+        parts_long rows start end ts cs (ts_is ∙ ap (λ xs. slice_range xs start end) p.times_are) (cs_is ∙ ap (λ xs. slice_range xs start end) p.counts_are)
 
     pub remade : (end : ℕ) (forms : List Form) (heads : List Cell) (cols : List Values) (ts cs : List ℤ) → end ≡ total (suc series) (sizes_of rows) → forms ≡ forms_of schema → heads ≡ heads_in schema.fields key → cols ≡ map (rows_between start end) columns → ts ≡ slice_range times start end → cs ≡ slice_range counts start end → series_rows key forms heads cols 0 ts cs ≡ slice_range rows start end
     remade end forms heads cols ts cs end_is forms_is heads_is cols_is ts_is cs_is =
         let s : Stands (row_keys rows) key start end = subst (λ n. Stands (row_keys rows) key n end) (sym start_is) (subst (λ n. Stands (row_keys rows) key (total series (sizes_of rows)) n) (sym end_is) stand) in
-        let c : cols ≡ map (rows_between start end) (columns_of schema rows) = cols_is ∙ ap (map (rows_between start end)) p.columns_are in
-        let t : ts ≡ slice_range (times_of rows) start end = ts_is ∙ ap (λ xs. slice_range xs start end) p.times_are in
-        let n : cs ≡ slice_range (counts_of rows) start end = cs_is ∙ ap (λ xs. slice_range xs start end) p.counts_are in
-        ap (λ x. series_rows key x heads cols 0 ts cs) forms_is
-        ∙ (ap (λ x. series_rows key (forms_of schema) x cols 0 ts cs) heads_is
-        ∙ (ap (λ x. series_rows key (forms_of schema) (heads_in schema.fields key) x 0 ts cs) c
-        ∙ (ap (λ x. series_rows key (forms_of schema) (heads_in schema.fields key) (map (rows_between start end) (columns_of schema rows)) 0 x cs) t
-        ∙ (ap (λ x. series_rows key (forms_of schema) (heads_in schema.fields key) (map (rows_between start end) (columns_of schema rows)) 0 (slice_range (times_of rows) start end) x) n
-        ∙ made_range schema rows key start end mapped are.each (keys_of_series rows key start end s)))))
-
-pub key_there : (keys : List (List ℕ)) (s : ℕ) → s < length keys → slice_get keys s ≡ Some (get_or keys s [])
-key_there [] s within = absurd (omega (arith, within))
-key_there (key ∷ keys) zero within = refl
-key_there (key ∷ keys) (suc s) within = key_there keys s (omega (arith, within))
+        series_made schema rows key start end forms heads cols ts cs mapped are.each (keys_of_series rows key start end s) forms_is heads_is
+        (cols_is ∙ ap (map (rows_between start end)) p.columns_are) (ts_is ∙ ap (λ xs. slice_range xs start end) p.times_are) (cs_is ∙ ap (λ xs. slice_range xs start end) p.counts_are)

@@ -1,10 +1,15 @@
 -- The runs of equal keys, from the front on.
 use Rattle.std.specs.Prelude.{◌≡◌, ℕ, zero, suc, ◌+◌, ◌++◌, Bool, true, false, cond, List, [], ◌∷◌, drop}
+use Rattle.std.specs.Ordering.{nat_cmp, is_eq}
+use Rattle.std.specs.Cmp.Lexicographic.{slice_cmp}
 use Rattle.std.specs.Str.{bytes_eq}
+use Rattle.std.specs.declared.cmp.Ordering.TheVariants.{Equal}
 use Rattle.std.proofs.Common.{refl, ap, sym, ◌∙◌, arith, append_assoc}
+use Rattle.std.proofs.lemmas.Map.Text.{is_eq-slice_cmp}
 use Rattle.std.proofs.lemmas.Slice.Eq.{bytes_eq-Decides}
 use Rattle.row_cells.specs.declared.rows.Row.{Row}
 use Rattle.index_segment.specs.Directory.{Run, run_of, with_key, runs_of, same_in_front, row_keys}
+use Rattle.row_cells.specs.WidenLaws.{other_bytes}
 
 pub bytes_eq_same : (a b : List ℕ) → bytes_eq a b ≡ true → a ≡ b
 bytes_eq_same a b is = (bytes_eq-Decides a b).0 is
@@ -15,12 +20,9 @@ bytes_eq_itself a = (bytes_eq-Decides a a).1 refl
 pub bytes_eq_differ : (a b : List ℕ) → bytes_eq a b ≡ false → a ≡ b → ⊥
 bytes_eq_differ a b is same = cc ((bytes_eq-Decides a b).1 same)
 
-pub bytes_eq_other : (a b : List ℕ) → (a ≡ b → ⊥) → bytes_eq a b ≡ false
-bytes_eq_other a b other = go (bytes_eq a b) (bytes_eq-Decides a b).0
-  where
-    go : (v : Bool) → (v ≡ true → a ≡ b) → v ≡ false
-    go true d = absurd (other (d refl))
-    go false d = refl
+-- keys that compare as equal are one
+pub same_key : (a b : List ℕ) → slice_cmp nat_cmp a b ≡ Equal → a ≡ b
+same_key a b is = bytes_eq_same a b (sym (is_eq-slice_cmp a b) ∙ ap is_eq is)
 
 joins : (key k : List ℕ) (size : ℕ) (all runs : List Run) → key ≡ k → all ≡ run_of k size ∷ runs → with_key key all ≡ run_of key (size + 1) ∷ runs
 joins key k size all runs same is =
@@ -31,7 +33,7 @@ joins key k size all runs same is =
 begins : (key k : List ℕ) (size : ℕ) (all runs : List Run) → (key ≡ k → ⊥) → all ≡ run_of k size ∷ runs → with_key key all ≡ run_of key 1 ∷ all
 begins key k size all runs other is =
     ap (with_key key) is
-    ∙ (ap (λ b. cond {A = List Run} b (run_of k (size + 1) ∷ runs) (run_of key 1 ∷ run_of k size ∷ runs)) (bytes_eq_other key k other)
+    ∙ (ap (λ b. cond {A = List Run} b (run_of k (size + 1) ∷ runs) (run_of key 1 ∷ run_of k size ∷ runs)) (other_bytes key k other)
     ∙ ap (λ rest. run_of key 1 ∷ rest) (sym is))
 
 -- the first run, and the runs behind it

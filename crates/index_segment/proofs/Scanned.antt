@@ -1,15 +1,13 @@
 -- Rows of a series and a range of times, found by places and put together from columns.
-use Rattle.std.specs.Prelude.{◌≡◌, ℕ, ℤ, pos, zero, suc, ◌≤ℤ◌, ◌<ℤ◌, ◌+◌, ◌-◌, ◌<◌, ◌≤◌, ◌&&◌, int_le, int_lt, nat_lt, not, T, Bool, true, false, cond, Option, Some, List, [], ◌∷◌, ◌++◌, map, length, take, drop, slice_range}
+use Rattle.std.specs.Prelude.{◌≡◌, ℕ, ℤ, pos, zero, suc, ◌≤ℤ◌, ◌<ℤ◌, ◌+◌, ◌-◌, ◌<◌, ◌≤◌, ◌&&◌, int_le, int_lt, not, T, Bool, true, false, cond, Option, Some, List, [], ◌∷◌, ◌++◌, map, length, take, drop, slice_range}
 use Rattle.std.specs.List.{filter, slice_get}
 use Rattle.std.specs.Option.{option_map}
 use Rattle.std.specs.Str.{bytes_eq}
 use Rattle.std.specs.Int.Signed.{lt_z, lt_z_yes, lt_z_no, le_z, le_z_yes}
 use Rattle.std.proofs.Common.{refl, ap, sym, subst, ◌∙◌, arith, get_or, append_assoc, length-append}
 use Rattle.std.proofs.lemmas.Int.{ints}
-use Rattle.std.proofs.lemmas.List.{length-map}
+use Rattle.std.proofs.lemmas.List.{length-map, map-append}
 use Rattle.std.proofs.lemmas.Option.{slice_get-map, slice_get_past, slice_get_within, get_or_from_slice_get}
-use Rattle.std.proofs.lemmas.Bool.{ltb-false}
-use borrow.Author.Tests.{ltb-true}
 use Rattle.row_cells.specs.Each.{Each}
 use Rattle.row_cells.specs.RowLists.{AreInRowOrder}
 use Rattle.row_cells.specs.declared.schemas.Schema.{Schema}
@@ -33,10 +31,14 @@ use Rattle.row_cells.specs.KeyedRows.{IsRowOf}
 use Rattle.index_segment.specs.Spelling.{counts_of, times_of}
 use Rattle.index_segment.proofs.HeldRows.{row_back}
 use Rattle.index_segment.proofs.Restored.{behind}
-use Rattle.index_segment.proofs.Runs.{bytes_eq_itself, bytes_eq_other, bytes_eq_same}
-use Rattle.index_segment.proofs.Series.{in_order_at, time_falls}
-use Rattle.index_segment.proofs.Ranged.{each_range}
-use Rattle.index_segment.proofs.Lists.{both}
+use Rattle.index_segment.proofs.Runs.{bytes_eq_itself, bytes_eq_same}
+use Rattle.index_segment.proofs.Series.{in_order_at}
+use Rattle.index_segment.proofs.Lists.{both, by_nat}
+use Rattle.column_block.specs.EachLaws.{each-range}
+use Rattle.row_cells.specs.WidenLaws.{other_bytes}
+use Rattle.packed_lists.specs.Laws.Picking.{range-map}
+use Rattle.row_cells.specs.declared.rows.Cell.{Cell}
+use Rattle.row_cells.specs.RangeLaws.{earlier_behind}
 
 -- ---- one row
 
@@ -57,7 +59,7 @@ falling rows key a b are s i j from less to =
     let r = row_at rows i (omega (arith, less, to, s.within, long)) in
     let t = row_at rows j (omega (arith, to, s.within, long)) in
     let same : r.0.key ≡ t.0.key = sym (key_at rows i r.0 r.1) ∙ (s.inside i from (omega (arith, less, to)) ∙ (sym (s.inside j (omega (arith, from, less)) to) ∙ key_at rows j t.0 t.1)) in
-    let falls : t.0.time <ℤ r.0.time = time_falls r.0 t.0 same (in_order_at rows i j r.0 t.0 are less r.1 t.1) in
+    let falls : t.0.time <ℤ r.0.time = earlier_behind r.0 t.0 (in_order_at rows i j r.0 t.0 are less r.1 t.1) same in
     subst (λ x. x <ℤ get_or (times_of rows) i (pos 0)) (sym (time_at rows j t.0 t.1)) (subst (λ x. t.0.time <ℤ x) (sym (time_at rows i r.0 r.1)) falls)
 
 -- ---- the test
@@ -99,7 +101,7 @@ not_up_to a b below = go (le_z a b) refl
 
 module _ (key : List ℕ) (from to : ℤ) (r : Row) where
   other_key : (r.key ≡ key → ⊥) → is_within key from to r ≡ false
-  other_key other = and_false (bytes_eq r.key key && int_le from r.time) (int_lt r.time to) (and_false (bytes_eq r.key key) (int_le from r.time) (bytes_eq_other r.key key other))
+  other_key other = and_false (bytes_eq r.key key && int_le from r.time) (int_lt r.time to) (and_false (bytes_eq r.key key) (int_le from r.time) (other_bytes r.key key other))
 
   too_late : to ≤ℤ r.time → is_within key from to r ≡ false
   too_late late = and_right (bytes_eq r.key key && int_le from r.time) (int_lt r.time to) (not_less r.time to late)
@@ -167,30 +169,10 @@ range_within rows key from to a b i j s a_i i_j j_b late in_late early in_early 
     long : length (row_keys rows) ≡ length rows
     long = length-map rows (λ row. row.key)
 
-    by_nat : {P : Type 0} (k n : ℕ) → (k < n → P) → (n ≤ k → P) → P
-    by_nat {P} k n less more = go (nat_lt k n) refl
-      where
-        go : (v : Bool) → nat_lt k n ≡ v → P
-        go true is = less (ltb-true k n is)
-        go false is = more (ltb-false k n is)
-
 -- ---- lists of a range
 
-pub drop_map : {A B : Type 0} (f : A → B) (n : ℕ) (xs : List A) → drop n (map f xs) ≡ map f (drop n xs)
-drop_map f zero xs = refl
-drop_map f (suc n) [] = refl
-drop_map f (suc n) (x ∷ xs) = drop_map f n xs
-
-pub take_map : {A B : Type 0} (f : A → B) (n : ℕ) (xs : List A) → take n (map f xs) ≡ map f (take n xs)
-take_map f zero xs = refl
-take_map f (suc n) [] = refl
-take_map f (suc n) (x ∷ xs) = ap (λ ys. f x ∷ ys) (take_map f n xs)
-
-pub range_map : {A B : Type 0} (f : A → B) (xs : List A) (i j : ℕ) → slice_range (map f xs) i j ≡ map f (slice_range xs i j)
-range_map f xs i j = ap (take (j - i)) (drop_map f i xs) ∙ take_map f (j - i) (drop i xs)
-
 pub range_two : {A B C : Type 0} (f : B → C) (g : A → B) (xs : List A) (i j : ℕ) → slice_range (map f (map g xs)) i j ≡ map f (map g (slice_range xs i j))
-range_two f g xs i j = range_map f (map g xs) i j ∙ ap (map f) (range_map g xs i j)
+range_two f g xs i j = range-map f (map g xs) i j ∙ ap (map f) (range-map g xs i j)
 
 module _ (i j : ℕ) where
   cells_range : (form : Form) (place : ℕ) (rows : List Row) → map (rows_between i j) (columns_of_cells form (map (cell_at place) rows)) ≡ columns_of_cells form (map (cell_at place) (slice_range rows i j))
@@ -205,14 +187,10 @@ module _ (i j : ℕ) where
       four : {a b c d e f g h : List (Option ℤ)} → a ≡ e → b ≡ f → c ≡ g → d ≡ h → values.Whole a ∷ values.Whole b ∷ values.Whole c ∷ values.Whole d ∷ [] ≡ values.Whole e ∷ values.Whole f ∷ values.Whole g ∷ values.Whole h ∷ []
       four p q r s = cc
 
-  map_joined : (f : Values → Values) (a b : List Values) → map f (a ++ b) ≡ map f a ++ map f b
-  map_joined f [] b = refl
-  map_joined f (x ∷ a) b = ap (λ ys. f x ∷ ys) (map_joined f a b)
-
   columns_range : (place : ℕ) (forms : List Form) (rows : List Row) → map (rows_between i j) (columns_from place forms rows) ≡ columns_from place forms (slice_range rows i j)
   columns_range place [] rows = refl
   columns_range place (form ∷ forms) rows =
-      map_joined (rows_between i j) (columns_of_cells form (map (cell_at place) rows)) (columns_from (place + 1) forms rows)
+      map-append (rows_between i j) (columns_of_cells form (map (cell_at place) rows)) (columns_from (place + 1) forms rows)
       ∙ (ap (λ xs. xs ++ map (rows_between i j) (columns_from (place + 1) forms rows)) (cells_range form place rows)
       ∙ ap (λ xs. columns_of_cells form (map (cell_at place) (slice_range rows i j)) ++ xs) (columns_range (place + 1) forms rows))
 
@@ -239,9 +217,19 @@ pub made_range : (schema : Schema) (rows : List Row) (key : List ℕ) (i j : ℕ
 made_range schema rows key i j mapped each keys =
     let part = slice_range rows i j in
     ap (λ columns. series_rows key (forms_of schema) (heads_in schema.fields key) columns 0 (slice_range (times_of rows) i j) (slice_range (counts_of rows) i j)) (columns_of_range i j schema rows)
-    ∙ (ap (λ times. series_rows key (forms_of schema) (heads_in schema.fields key) (columns_of schema part) 0 times (slice_range (counts_of rows) i j)) (range_map (λ row. row.time) rows i j)
-    ∙ (ap (λ counts. series_rows key (forms_of schema) (heads_in schema.fields key) (columns_of schema part) 0 (times_of part) counts) (range_map (λ row. pos row.count) rows i j)
-    ∙ series_back schema key part [] part 0 mapped (each_range (IsRowOf schema) rows i j each) keys refl refl))
+    ∙ (ap (λ times. series_rows key (forms_of schema) (heads_in schema.fields key) (columns_of schema part) 0 times (slice_range (counts_of rows) i j)) (range-map (λ row. row.time) rows i j)
+    ∙ (ap (λ counts. series_rows key (forms_of schema) (heads_in schema.fields key) (columns_of schema part) 0 (times_of part) counts) (range-map (λ row. pos row.count) rows i j)
+    ∙ series_back schema key part [] part 0 mapped (each-range (IsRowOf schema) rows i j each) keys refl refl))
+
+-- the same of parts that are equal to these
+pub series_made : (schema : Schema) (rows : List Row) (key : List ℕ) (i j : ℕ) (forms : List Form) (heads : List Cell) (cols : List Values) (ts cs : List ℤ) → IsMapped schema → Each (IsRowOf schema) rows → Each (λ row. row.key ≡ key) (slice_range rows i j) → forms ≡ forms_of schema → heads ≡ heads_in schema.fields key → cols ≡ map (rows_between i j) (columns_of schema rows) → ts ≡ slice_range (times_of rows) i j → cs ≡ slice_range (counts_of rows) i j → series_rows key forms heads cols 0 ts cs ≡ slice_range rows i j
+series_made schema rows key i j forms heads cols ts cs mapped each keys forms_is heads_is cols_is ts_is cs_is = rw (forms_is, heads_is, cols_is, ts_is, cs_is) (made_range schema rows key i j mapped each keys)
+
+-- a range has as many counts as times
+pub parts_long : (rows : List Row) (i j : ℕ) (ts cs : List ℤ) → ts ≡ slice_range (times_of rows) i j → cs ≡ slice_range (counts_of rows) i j → length cs ≡ length ts
+parts_long rows i j ts cs ts_is cs_is =
+    let part = slice_range rows i j in
+    ap length (cs_is ∙ range-map (λ row. pos row.count) rows i j) ∙ (length-map part (λ row. pos row.count) ∙ sym (ap length (ts_is ∙ range-map (λ row. row.time) rows i j) ∙ length-map part (λ row. row.time)))
 
 -- ---- the rows of a whole series
 
@@ -276,7 +264,4 @@ keys_in_series rows key a b i j s start end = each_got (λ row. row.key ≡ key)
     sym (key_at rows (i + k) r at) ∙ s.inside (i + k) (omega (arith, start)) (omega (arith, t.1, end)))
 
 pub keys_of_series : (rows : List Row) (key : List ℕ) (a b : ℕ) → Stands (row_keys rows) key a b → Each (λ row. row.key ≡ key) (slice_range rows a b)
-keys_of_series rows key a b s = each_got (λ row. row.key ≡ key) (slice_range rows a b) (λ k r there.
-    let t = got_taken (b - a) k (drop a rows) r there in
-    let at : slice_get rows (a + k) ≡ Some r = sym (got_dropped a k rows) ∙ t.0 in
-    sym (key_at rows (a + k) r at) ∙ s.inside (a + k) (omega arith) (omega (arith, t.1)))
+keys_of_series rows key a b s = keys_in_series rows key a b a b s (omega arith) (omega arith)

@@ -1,56 +1,27 @@
 -- The rows of a series stand together, and their times fall.
-use Rattle.std.specs.Prelude.{◌≡◌, ℕ, zero, suc, ◌<ℤ◌, ◌+◌, ◌-◌, ◌<◌, ◌≤◌, nat_lt, Bool, true, false, cond, Some, List, [], ◌∷◌, ◌++◌, map, length, replicate}
+use Rattle.std.specs.Prelude.{◌≡◌, ℕ, zero, suc, ◌+◌, ◌-◌, ◌<◌, ◌≤◌, nat_lt, Bool, true, false, Some, List, [], ◌∷◌, ◌++◌, map, length, replicate}
 use Rattle.std.specs.List.{slice_get}
-use Rattle.std.specs.Ordering.{nat_cmp, int_cmp, ordering_then, MatchOrdering}
+use Rattle.std.specs.Ordering.{nat_cmp}
 use Rattle.std.specs.Cmp.Lexicographic.{slice_cmp}
-use Rattle.std.specs.Str.{bytes_eq}
 use Rattle.std.specs.declared.cmp.Ordering.{Ordering}
-use Rattle.std.specs.declared.cmp.Ordering.TheVariants.{Less, Equal, Greater}
+use Rattle.std.specs.declared.cmp.Ordering.TheVariants.{Less}
 use Rattle.std.proofs.Common.{refl, ap, sym, subst, ◌∙◌, arith, get_or, length-append}
 use Rattle.std.proofs.lemmas.Bool.{ltb-false}
-use Rattle.std.proofs.lemmas.Cmp.{nat_list_cmp_total, int_ranked}
 use Rattle.std.proofs.lemmas.List.{get_or_append_left, get_or-append-add, get_or-replicate, length-replicate}
 use Rattle.std.proofs.lemmas.Option.{slice_get_within, get_or_from_slice_get}
-use Rattle.std.proofs.lemmas.Map.Text.{is_eq-slice_cmp}
 use borrow.Author.Tests.{ltb-true}
 use Rattle.row_cells.specs.declared.rows.Row.{Row}
 use Rattle.row_cells.specs.Order.{row_cmp}
 use Rattle.row_cells.specs.RowLists.{AllAfter, AreInRowOrder}
-use Rattle.index_segment.specs.Directory.{Run, run_of, with_key, runs_of, row_keys, keys_of, sizes_of, spread, starts_from, total}
-use Rattle.index_segment.specs.Order.{Ascend, NoneIs, Stands}
-use Rattle.index_segment.proofs.Found.{not_less}
+use Rattle.index_segment.specs.Directory.{row_keys, keys_of, sizes_of, spread, starts_from, total}
+use Rattle.index_segment.specs.Order.{Ascend, NoneIs, Stands, KeysAfter, KeysAscend}
 use Rattle.index_segment.proofs.HeldRows.{spread_rows}
-use Rattle.index_segment.proofs.Runs.{bytes_eq_same, bytes_eq_differ}
 use Rattle.index_segment.proofs.Lists.{some_is}
+use Rattle.index_segment.specs.SeriesLaws.{keyed, keys_lower}
+use Rattle.row_cells.specs.WidenLaws.{apart}
 
 abbrev order : List ℕ → List ℕ → Ordering
 order a b = slice_cmp nat_cmp a b
-
-equal_keys : (a b : List ℕ) → order a b ≡ Equal → a ≡ b
-equal_keys a b same = bytes_eq_same a b (sym (is_eq-slice_cmp a b) ∙ ap (λ o. eq_test o) same)
-  where
-    eq_test : Ordering → Bool
-    eq_test Less = false
-    eq_test Equal = true
-    eq_test Greater = false
-
--- ---- two rows
-
-pub time_falls : (r s : Row) → r.key ≡ s.key → row_cmp r s ≡ Less → s.time <ℤ r.time
-time_falls r s same less = go (order r.key s.key) refl less
-  where
-    go : (o : Ordering) → order r.key s.key ≡ o → ordering_then o (int_cmp s.time r.time) ≡ Less → s.time <ℤ r.time
-    go Less is then_less = absurd (not_less r.key s.key is same)
-    go Equal is then_less = subst (λ o. MatchOrdering o (s.time <ℤ r.time) (s.time ≡ r.time) (r.time <ℤ s.time)) then_less (int_ranked s.time r.time (int_cmp s.time r.time) refl)
-    go Greater is then_less = cc
-
-key_order : (r s : Row) → (r.key ≡ s.key → ⊥) → row_cmp r s ≡ Less → order r.key s.key ≡ Less
-key_order r s other less = go (order r.key s.key) refl less
-  where
-    go : (o : Ordering) → order r.key s.key ≡ o → ordering_then o (int_cmp s.time r.time) ≡ Less → o ≡ Less
-    go Less is then_less = refl
-    go Equal is then_less = absurd (other (equal_keys r.key s.key is))
-    go Greater is then_less = cc
 
 -- ---- rows in order
 
@@ -68,68 +39,15 @@ in_order_at (row ∷ rows) (suc i) (suc j) r s are less at_i at_j = in_order_at 
 
 -- ---- keys ascend
 
-abbrev pub KeysAfter : List ℕ → List (List ℕ) → Type 0
-KeysAfter k [] = Unit {0}
-KeysAfter k (x ∷ xs) = (order k x ≡ Less) × KeysAfter x xs
-
-abbrev pub KeysAscend : List (List ℕ) → Type 0
-KeysAscend [] = Unit {0}
-KeysAscend (k ∷ ks) = KeysAfter k ks
-
-abbrev run_keys : List Run → List (List ℕ)
-run_keys runs = map (λ run. run.key) runs
-
--- the runs of rows begin with the first row's key
-record Begins (key : List ℕ) (runs : List Run) : Type 0 where
-  pub size : ℕ
-  pub rest : List Run
-  pub is : runs ≡ run_of key size ∷ rest
-  pub after : KeysAfter key (run_keys rest)
-
-begins_with : (r s : Row) (runs : List Run) → row_cmp r s ≡ Less → Begins s.key runs → Begins r.key (with_key r.key runs)
-begins_with r s runs less b = go (bytes_eq r.key s.key) refl
-  where
-    at_front : with_key r.key runs ≡ cond {A = List Run} (bytes_eq r.key s.key) (run_of s.key (b.size + 1) ∷ b.rest) (run_of r.key 1 ∷ run_of s.key b.size ∷ b.rest)
-    at_front = ap (with_key r.key) b.is
-
-    go : (v : Bool) → bytes_eq r.key s.key ≡ v → Begins r.key (with_key r.key runs)
-    go true is =
-        let same : r.key ≡ s.key = bytes_eq_same r.key s.key is in
-        record {
-          size = b.size + 1;
-          rest = b.rest;
-          is = at_front ∙ (ap (λ v. cond {A = List Run} v (run_of s.key (b.size + 1) ∷ b.rest) (run_of r.key 1 ∷ run_of s.key b.size ∷ b.rest)) is ∙ ap (λ k. run_of k (b.size + 1) ∷ b.rest) (sym same));
-          after = subst (λ k. KeysAfter k (run_keys b.rest)) (sym same) b.after;
-        }
-    go false is = record {
-      size = 1;
-      rest = run_of s.key b.size ∷ b.rest;
-      is = at_front ∙ ap (λ v. cond {A = List Run} v (run_of s.key (b.size + 1) ∷ b.rest) (run_of r.key 1 ∷ run_of s.key b.size ∷ b.rest)) is;
-      after = (key_order r s (bytes_eq_differ r.key s.key is) less, b.after);
-    }
-
-runs_begin : (row : Row) (rows : List Row) → AreInRowOrder (row ∷ rows) → Begins row.key (runs_of (row_keys (row ∷ rows)))
-runs_begin row [] are = record { size = 1; rest = []; is = refl; after = tt }
-runs_begin row (s ∷ rows) are = begins_with row s (runs_of (row_keys (s ∷ rows))) are.0.0 (runs_begin s rows are.1)
-
-runs_ascend : (rows : List Row) → AreInRowOrder rows → KeysAscend (run_keys (runs_of (row_keys rows)))
-runs_ascend [] are = tt
-runs_ascend (row ∷ rows) are =
-    let b = runs_begin row rows are in
-    subst (λ runs. KeysAscend (run_keys runs)) (sym b.is) b.after
-
 pub keys_ascend : (rows : List Row) → AreInRowOrder rows → KeysAscend (keys_of rows)
 unfolding keys_of
-keys_ascend rows are = runs_ascend rows are
-
-pub weaker : (k x : List ℕ) (xs : List (List ℕ)) → order k x ≡ Less → KeysAfter x xs → KeysAfter k xs
-weaker k x [] less after = tt
-weaker k x (y ∷ ys) less after = (nat_list_cmp_total.trans k x y less after.0, after.1)
+keys_ascend [] are = tt
+keys_ascend (row ∷ rows) are = let (size, rest, is, after, same) = keyed row rows are in subst (λ runs. KeysAscend (map (λ run. run.key) runs)) (sym is) after
 
 after_at : (k : List ℕ) (ks : List (List ℕ)) (j : ℕ) → KeysAfter k ks → j < length ks → order k (get_or ks j []) ≡ Less
 after_at k [] j after within = absurd (omega (arith, within))
 after_at k (x ∷ xs) zero after within = after.0
-after_at k (x ∷ xs) (suc j) after within = after_at k xs j (weaker k x xs after.0 after.1) (omega (arith, within))
+after_at k (x ∷ xs) (suc j) after within = after_at k xs j (keys_lower k x xs after.0 after.1) (omega (arith, within))
 
 pub ascend_at : (ks : List (List ℕ)) → KeysAscend ks → Ascend ks
 ascend_at [] ascend i j less within = absurd (omega (arith, within))
@@ -169,7 +87,7 @@ longer n k rest = omega (arith, length-append (replicate n k) rest, length-repli
 spread_after : (k : List ℕ) (ks : List (List ℕ)) (ns : List ℕ) (i : ℕ) → KeysAfter k ks → i < length (spread ks ns) → order k (get_or (spread ks ns) i []) ≡ Less
 spread_after k [] ns i after within = absurd (omega (arith, within))
 spread_after k (x ∷ xs) [] i after within = absurd (omega (arith, within))
-spread_after k (x ∷ xs) (n ∷ ns) i after within = go (nat_lt i n) refl (λ m. spread_after k xs ns m (weaker k x xs after.0 after.1))
+spread_after k (x ∷ xs) (n ∷ ns) i after within = go (nat_lt i n) refl (λ m. spread_after k xs ns m (keys_lower k x xs after.0 after.1))
   where
     go : (v : Bool) → nat_lt i n ≡ v → ((m : ℕ) → m < length (spread xs ns) → order k (get_or (spread xs ns) m []) ≡ Less) → order k (get_or (replicate n x ++ spread xs ns) i []) ≡ Less
     go true is rest = ap (order k) (in_front n x (spread xs ns) i (ltb-true i n is)) ∙ after.0
@@ -186,7 +104,7 @@ stands (k ∷ ks) (n ∷ ns) zero key ascend long there = record {
   within = omega (arith, longer n k (spread ks ns));
   before = λ i below. absurd (omega (arith, below));
   inside = λ i from below. in_front n k (spread ks ns) i (omega (arith, below)) ∙ same;
-  behind = λ i from within is. not_less k (get_or (spread ks ns) (i - n) []) (spread_after k ks ns (i - n) ascend (omega (arith, within, longer n k (spread ks ns), from))) (same ∙ (sym is ∙ in_rest n k (spread ks ns) i (omega (arith, from))));
+  behind = λ i from within is. apart k (get_or (spread ks ns) (i - n) []) (spread_after k ks ns (i - n) ascend (omega (arith, within, longer n k (spread ks ns), from))) (same ∙ (sym is ∙ in_rest n k (spread ks ns) i (omega (arith, from))));
 }
   where
     same : k ≡ key
@@ -208,7 +126,7 @@ stands (k ∷ ks) (n ∷ ns) (suc s) key ascend long there =
     rest (x ∷ xs) after = after.1
 
     go_before : Stands (spread ks ns) key (total s ns) (total (suc s) ns) → order k key ≡ Less → (i : ℕ) → i < n + total s ns → get_or (replicate n k ++ spread ks ns) i [] ≡ key → (v : Bool) → nat_lt i n ≡ v → ⊥
-    go_before r here i below is true e = not_less k key here (sym (in_front n k (spread ks ns) i (ltb-true i n e)) ∙ is)
+    go_before r here i below is true e = apart k key here (sym (in_front n k (spread ks ns) i (ltb-true i n e)) ∙ is)
     go_before r here i below is false e = r.before (i - n) (omega (arith, below, ltb-false i n e)) (sym (in_rest n k (spread ks ns) i (ltb-false i n e)) ∙ is)
 
 -- ---- every row's key is one of the keys

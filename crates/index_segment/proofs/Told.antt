@@ -12,7 +12,7 @@ use Rattle.row_cells.specs.KeyLaws.{same_back, same_front, text_bytes_injective}
 use Rattle.row_cells.specs.Mapped.{IsMapped}
 use Rattle.column_block.specs.declared.kinds.ColumnKind.{ColumnKind}
 use Rattle.column_block.specs.declared.kinds.Values.{Values}
-use Rattle.packed_lists.specs.Nums.{IsNums}
+use Rattle.packed_lists.specs.Laws.Fronts.{same-nums}
 use Rattle.column_block.specs.Rules.{IsColumnOf}
 use Rattle.column_block.specs.Spelling.{Spells}
 use Rattle.index_segment.specs.Columns.{columns_of}
@@ -44,7 +44,7 @@ keys_told (k ∷ ks) (l ∷ ls) x y are others long same =
     let more = keys_told ks ls x y are.1 others.1 (omega (arith, long)) here.rest_is in
     (both here.text more.0, more.1)
 
-module _ (numbers : (vs ws : List ℤ) (a b x y : List ℕ) → length vs ≡ length ws → IsNums vs a → IsNums ws b → a ++ x ≡ b ++ y → (vs ≡ ws) × (a ≡ b) × (x ≡ y)) (column : (kind : ColumnKind) (rows : ℕ) (vs ws : Values) (a b x y : List ℕ) → IsColumnOf kind rows vs → IsColumnOf kind rows ws → Spells vs a → Spells ws b → a ++ x ≡ b ++ y → (vs ≡ ws) × (a ≡ b) × (x ≡ y)) where
+module _ (column : (kind : ColumnKind) (rows : ℕ) (vs ws : Values) (a b x y : List ℕ) → IsColumnOf kind rows vs → IsColumnOf kind rows ws → Spells vs a → Spells ws b → a ++ x ≡ b ++ y → (vs ≡ ws) × (a ≡ b) × (x ≡ y)) where
   columns_told : (kinds : List ColumnKind) (n : ℕ) (cs ds : List Values) (a b : List ℕ) → AreColumnsOf kinds n cs → AreColumnsOf kinds n ds → AreColumns cs a → AreColumns ds b → a ≡ b → cs ≡ ds
   columns_told [] n [] [] a b of_cs of_ds are others same = refl
   columns_told [] n [] (d ∷ ds) a b of_cs of_ds are others same = absurd of_ds
@@ -63,9 +63,9 @@ module _ (numbers : (vs ws : List ℤ) (a b x y : List ℕ) → length vs ≡ le
       let counts = number_told (length r) (length s) _ _ l.rows_few m.rows_few (same_back mark _ mark _ refl (sym l.joined ∙ m.joined)) in
       let series = number_told (length (keys_of r)) (length (keys_of s)) _ _ l.series_few m.series_few counts.1 in
       let keys = keys_told (keys_of r) (keys_of s) _ _ l.keys m.keys series.0 series.1 in
-      let sizes = numbers (counted (sizes_of r)) (counted (sizes_of s)) l.size_bytes m.size_bytes _ _ (l.sizes_length ∙ (series.0 ∙ sym m.sizes_length)) l.sizes_are m.sizes_are keys.1 in
-      let times = numbers (times_of r) (times_of s) l.time_bytes m.time_bytes _ _ (l.times_length ∙ (counts.0 ∙ sym m.times_length)) l.times_are m.times_are sizes.2 in
-      let documents = numbers (counts_of r) (counts_of s) l.count_bytes m.count_bytes l.back m.back (l.counts_length ∙ (counts.0 ∙ sym m.counts_length)) l.counts_are m.counts_are times.2 in
+      let sizes = same-nums (counted (sizes_of r)) (counted (sizes_of s)) l.size_bytes m.size_bytes _ _ (l.sizes_length ∙ (series.0 ∙ sym m.sizes_length)) l.sizes_are m.sizes_are keys.1 in
+      let times = same-nums (times_of r) (times_of s) l.time_bytes m.time_bytes _ _ (l.times_length ∙ (counts.0 ∙ sym m.times_length)) l.times_are m.times_are sizes.2 in
+      let documents = same-nums (counts_of r) (counts_of s) l.count_bytes m.count_bytes l.back m.back (l.counts_length ∙ (counts.0 ∙ sym m.counts_length)) l.counts_are m.counts_are times.2 in
       let columns = columns_told (kinds_of (forms_of schema)) (length s) (columns_of schema r) (columns_of schema s) l.back m.back (subst (λ n. AreColumnsOf (kinds_of (forms_of schema)) n (columns_of schema r)) counts.0 l.columns_of_kinds) m.columns_of_kinds l.columns_are m.columns_are documents.2 in
       sym (held_rows schema r mapped is.rows_are)
       ∙ (alike schema (keys_of r) (keys_of s) (counted (sizes_of r)) (counted (sizes_of s)) (times_of r) (times_of s) (counts_of r) (counts_of s) (columns_of schema r) (columns_of schema s) keys.0 sizes.0 times.0 documents.0 columns

@@ -16,8 +16,12 @@ use Rattle.index_segment.specs.Directory.{Run, run_of, runs_of, row_keys, same_i
 use Rattle.index_segment.specs.Joining.{rows_of_joints}
 use Rattle.index_segment.specs.Merging.{Joint, Side, First, Second, by_order, firsts, joint, joined_series, picked, seconds, sides_by_time, sides_of_series}
 use Rattle.index_segment.specs.Spelling.{times_of}
-use Rattle.index_segment.proofs.Merged.{first_of, key_cmp, merged, merged_each, merged_length, merged_nothing, same_key, second_first, second_of}
-use Rattle.index_segment.proofs.Runs.{bytes_eq_differ, bytes_eq_itself, bytes_eq_other, bytes_eq_same, first_run, keys_dropped}
+use Rattle.index_segment.proofs.Merged.{first_of, key_cmp, merged, merged_each, merged_length, merged_nothing, second_first, second_of}
+use Rattle.index_segment.proofs.Runs.{bytes_eq_differ, bytes_eq_itself, bytes_eq_same, first_run, keys_dropped, same_key}
+use Rattle.row_cells.specs.WidenLaws.{other_bytes, apart}
+use Rattle.index_segment.specs.SeriesLaws.{key_before}
+use Rattle.column_block.specs.EachLaws.{each-append}
+use Rattle.std.proofs.Math.Seq.{drop-append_seam}
 
 -- rows of a series, and rows of series behind it
 abbrev pub AllOf : List ℕ → List Row → Type 0
@@ -27,18 +31,6 @@ abbrev pub AllPast : List ℕ → List Row → Type 0
 AllPast key rows = Each (λ row. key_cmp key row.key ≡ Less) rows
 
 -- ---- orders of rows by keys
-
--- a key isn't less than itself
-not_itself : (a b : List ℕ) → key_cmp a b ≡ Less → a ≡ b → ⊥
-not_itself a b less same = cc (tied_itself nat_list_cmp_total b)
-
-key_less : (x y : Row) → (x.key ≡ y.key → ⊥) → row_cmp x y ≡ Less → key_cmp x.key y.key ≡ Less
-key_less x y other less = go (key_cmp x.key y.key) refl less
-  where
-    go : (o : Ordering) → key_cmp x.key y.key ≡ o → ordering_then o (int_cmp y.time x.time) ≡ Less → o ≡ Less
-    go Less is both = refl
-    go Equal is both = absurd (other (same_key x.key y.key is))
-    go Greater is both = cc
 
 row_less : (key : List ℕ) (x y : Row) → x.key ≡ key → key_cmp key y.key ≡ Less → row_cmp x y ≡ Less
 row_less key x y is less = ap (λ o. ordering_then o (int_cmp y.time x.time)) (ap (λ k. key_cmp k y.key) is ∙ less)
@@ -62,10 +54,8 @@ not_later key x y is is_too not less = go (int_lt x.time y.time) (sym (ap (λ o.
 
 -- ---- rows by series
 
-pub each_joined : (P : Row → Type 0) (n : ℕ) (rows : List Row) → Each P (take n rows) → Each P (drop n rows) → Each P rows
-each_joined P zero rows front back = back
-each_joined P (suc n) [] front back = tt
-each_joined P (suc n) (row ∷ rows) front back = (front.0, each_joined P n rows front.1 back)
+each_joined : (P : Row → Type 0) (n : ℕ) (rows : List Row) → Each P (take n rows) → Each P (drop n rows) → Each P rows
+each_joined P n rows front back = subst (Each P) (take-append-drop n rows) (each-append P (take n rows) (drop n rows) front back)
 
 -- the first series of rows
 pub record IsGroup (run : Run) (rows : List Row) : Type 0 where
@@ -93,7 +83,7 @@ begins_past : (row : Row) (rows : List Row) (run : Run) → (row.key ≡ run.key
 begins_past row [] run other after group = tt
 begins_past row (next ∷ rows) run other after group =
     let is : next.key ≡ run.key = first_key run.size run.key next rows group.some group.all in
-    group_past row.key run (next ∷ rows) (ap (key_cmp row.key) (sym is) ∙ key_less row next (λ same. other (same ∙ is)) after.0) group
+    group_past row.key run (next ∷ rows) (ap (key_cmp row.key) (sym is) ∙ key_before row next (λ same. other (same ∙ is)) after.0) group
 
 with_row : (row : Row) (rows : List Row) (runs : List Run) → AllAfter row rows → Grouped runs rows → Grouped (with_key row.key runs) (row ∷ rows)
 with_row row rows [] after none = (record { some = omega arith; within = omega arith; all = (refl, tt); past = subst (AllPast row.key) (sym none) tt }, none)
@@ -266,14 +256,10 @@ woven (j ∷ js) xs ys all =
 
 front_count : (key : List ℕ) (zs rest : List Row) → AllOf key zs → AllPast key rest → same_in_front key (row_keys (zs ++ rest)) ≡ length zs
 front_count key [] [] all past = refl
-front_count key [] (r ∷ rest) all past = ap (λ b. cond b (suc (same_in_front key (row_keys rest))) 0) (bytes_eq_other r.key key (λ same. not_itself key r.key past.0 (sym same)))
+front_count key [] (r ∷ rest) all past = ap (λ b. cond b (suc (same_in_front key (row_keys rest))) 0) (other_bytes r.key key (λ same. apart key r.key past.0 (sym same)))
 front_count key (z ∷ zs) rest all past =
     ap (λ b. cond b (suc (same_in_front key (row_keys (zs ++ rest)))) 0) (ap (λ k. bytes_eq k key) all.0 ∙ bytes_eq_itself key)
     ∙ ap suc (front_count key zs rest all.1 past)
-
-drop_front : (zs rest : List Row) → drop (length zs) (zs ++ rest) ≡ rest
-drop_front [] rest = refl
-drop_front (z ∷ zs) rest = drop_front zs rest
 
 runs_front : (key : List ℕ) (zs rest : List Row) → 1 ≤ length zs → AllOf key zs → AllPast key rest → runs_of (row_keys (zs ++ rest)) ≡ run_of key (length zs) ∷ runs_of (row_keys rest)
 runs_front key [] rest some all past = absurd (omega (arith, some))
@@ -281,7 +267,7 @@ runs_front key (z ∷ zs) rest some all past =
     first_run z.key (row_keys (zs ++ rest))
     ∙ (ap (λ k. run_of k (suc (same_in_front k (row_keys (zs ++ rest)))) ∷ runs_of (drop (same_in_front k (row_keys (zs ++ rest))) (row_keys (zs ++ rest)))) all.0
     ∙ (ap (λ n. run_of key (suc n) ∷ runs_of (drop n (row_keys (zs ++ rest)))) (front_count key zs rest all.1 past)
-    ∙ ap (λ keys. run_of key (suc (length zs)) ∷ runs_of keys) (keys_dropped (length zs) (zs ++ rest) ∙ ap row_keys (drop_front zs rest))))
+    ∙ ap (λ keys. run_of key (suc (length zs)) ∷ runs_of keys) (keys_dropped (length zs) (zs ++ rest) ∙ ap row_keys (drop-append_seam zs rest))))
 
 abbrev pub run_of_joint : Joint → Run
 run_of_joint j = run_of j.key (j.rows.first + j.rows.second)

@@ -8,5 +8,6 @@ pub mod Looks
 pub mod Merging
 pub mod Order
 pub mod Parts
+pub mod SeriesLaws
 pub mod Spelling
 pub mod Turns

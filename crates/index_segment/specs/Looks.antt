@@ -1,5 +1,5 @@
 -- What calls answer of the rows of a segment.
-use Rattle.std.specs.Prelude.{◌≡◌, ℕ, zero, suc, if◌then◌else◌, ℤ, int_le, int_lt, Bool, true, ◌&&◌, List, [], ◌∷◌, length, slice_range, ◌≤◌, Option, Some, None}
+use Rattle.std.specs.Prelude.{◌≡◌, ℕ, if◌then◌else◌, ℤ, int_le, int_lt, Bool, true, ◌&&◌, List, [], ◌∷◌, length, slice_range, ◌≤◌, Option, Some, None}
 use Rattle.std.specs.List.{filter}
 use Rattle.std.specs.Ordering.{int_eq, nat_cmp, is_gt}
 use Rattle.std.specs.Cmp.Lexicographic.{slice_cmp}
@@ -12,6 +12,7 @@ use Rattle.row_cells.specs.declared.schemas.Field.{Field}
 use Rattle.row_cells.specs.declared.schemas.Role.TheVariants.{Gauge as GaugeRole}
 use Rattle.row_cells.specs.Merging.{parts_of}
 use Rattle.index_segment.specs.Columns.{cell_at}
+use Rattle.row_cells.specs.Mapped.{IsRoleAt}
 
 -- a row is of a series, at or behind one time and before another
 abbrev pub is_within : List ℕ → ℤ → ℤ → Row → Bool
@@ -51,6 +52,4 @@ first_behind before (key ∷ keys) = if is_behind before key then Some key else 
 
 -- the field at a place is a gauge
 abbrev pub IsGaugeAt : List Field → ℕ → Type 0
-IsGaugeAt [] place = ⊥
-IsGaugeAt (f ∷ fields) zero = f.role ≡ GaugeRole
-IsGaugeAt (f ∷ fields) (suc place) = IsGaugeAt fields place
+IsGaugeAt fields place = IsRoleAt GaugeRole fields place

@@ -1,5 +1,5 @@
 -- Two lists of rows in row order made one: which of them each row comes from.
-use Rattle.std.specs.Prelude.{◌≡◌, ℕ, ℤ, int_lt, unsigned_abs, ◌+◌, if◌then◌else◌, List, [], ◌∷◌, ◌++◌, map, take, drop, replicate}
+use Rattle.std.specs.Prelude.{ℕ, ℤ, int_lt, unsigned_abs, ◌+◌, if◌then◌else◌, List, [], ◌∷◌, ◌++◌, map, take, drop, replicate}
 use Rattle.std.specs.Ordering.{nat_cmp}
 use Rattle.std.specs.Cmp.Lexicographic.{slice_cmp}
 use Rattle.std.specs.declared.cmp.Ordering.{Ordering}
@@ -10,10 +10,7 @@ use Rattle.column_block.specs.declared.kinds.Values.{Values}
 use Rattle.column_block.specs.declared.kinds.Values.TheVariants.{Whole, Parts, Wholes, Words}
 use Rattle.index_segment.specs.declared.shares.Counts.{Counts}
 use Rattle.index_segment.specs.Directory.{Run, run_of}
-
--- no row of one list has the series and the time of a row of the other
-abbrev pub AreApart : List Row → List Row → Type 0
-AreApart first second = Each (λ a. Each (λ b. a.key ≡ b.key → a.time ≡ b.time → ⊥) second) first
+use Rattle.row_cells.specs.RowLists.{AreApart}
 
 -- no two of the lists have a series and a time in common
 abbrev pub AreAllApart : List (List Row) → Type 0

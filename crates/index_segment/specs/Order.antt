@@ -1,10 +1,20 @@
 -- Keys in byte order, by their places.
-use Rattle.std.specs.Prelude.{◌≡◌, ◌≢◌, ℕ, ◌<◌, ◌≤◌, List, [], length, slice_index_or}
+use Rattle.std.specs.Prelude.{◌≡◌, ◌≢◌, ℕ, ◌<◌, ◌≤◌, List, [], ◌∷◌, length, slice_index_or}
 use Rattle.std.specs.Ordering.{nat_cmp}
 use Rattle.std.specs.Cmp.Lexicographic.{slice_cmp}
 use Rattle.std.specs.declared.cmp.Ordering.TheVariants.{Less}
+use Rattle.row_cells.specs.Dimensions.{IsBefore}
 
--- each key stands before those behind it
+-- each key stands before the next one, and the first behind another
+abbrev pub KeysAfter : List ℕ → List (List ℕ) → Type 0
+KeysAfter low [] = Unit {0}
+KeysAfter low (key ∷ keys) = IsBefore low key × KeysAfter key keys
+
+abbrev pub KeysAscend : List (List ℕ) → Type 0
+KeysAscend [] = Unit {0}
+KeysAscend (key ∷ keys) = KeysAfter key keys
+
+-- the same by places
 abbrev pub Ascend : List (List ℕ) → Type 0
 Ascend keys = (i j : ℕ) → i < j → j < length keys → slice_cmp nat_cmp (slice_index_or keys i []) (slice_index_or keys j []) ≡ Less
 

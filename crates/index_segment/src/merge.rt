@@ -23,10 +23,10 @@ fn numbers_of(alloc: Global, list: &NumberList) -> Result<Numbers, NoMemory>
 
 impl Segment {
     ghost use Rattle.row_cells.specs.Limits.{most_documents};
-    ghost use Rattle.row_cells.specs.RowLists.{documents, in_row_order};
+    ghost use Rattle.row_cells.specs.RowLists.{AreApart, documents, in_row_order};
     ghost use Rattle.row_cells.specs.Each.{Each};
     ghost use Rattle.row_cells.specs.Mapped.{IsMapped};
-    ghost use Rattle.index_segment.specs.Merging.{AreAllApart, AreApart};
+    ghost use Rattle.index_segment.specs.Merging.{AreAllApart};
 
     /// One segment of the rows of two, which have one schema, and no series and time in common. Each series' key is
     /// copied once; values are moved from the columns of both to those of the one, and no row is made.

@@ -3,12 +3,15 @@ use Rattle.std.proofs.Common.{ap, subst, sym, w64, to_z, of_z, ◌∙◌}
 use Rattle.std.proofs.Math.Facts.{to_z-of_z}
 use Rattle.downsample_fold.specs.Direct.{down}
 use Rattle.row_cells.specs.Limits.{most_documents}
+use Rattle.row_cells.specs.EachLaws.{Each-weaker}
+use Rattle.row_cells.specs.Fitting.{Fits}
+use Rattle.row_cells.specs.KeyedRows.{IsRowOf}
+use Rattle.row_cells.specs.RangeLaws.{range_is_rows}
 use Rattle.row_cells.specs.RowLists.{AllFit, AreInRowOrder, documents}
 use Rattle.row_cells.specs.declared.rows.Row.{Row}
 use Rattle.time_text.specs.Interval.{ms_of}
 use Rattle.index_segment.specs.Directory.{keys_of}
 use Rattle.index_segment.specs.Looks.{rows_within}
-use Rattle.index_segment.proofs.Parted.{part_kept, rows_fit}
 use Rattle.index_segment.proofs.segment.Segment.fold_series.Goals as goal
 
 pub fold_all-requires-clause-fit : goal.fold_all-requires-clause-fit
@@ -17,18 +20,18 @@ fold_all-requires-clause-fit c =
     let i = c.range-range.result.first in
     let j = c.range-range.result.last in
     let is = sym (c.as_slice.ensures.value ∙ c.in_ok-rows.ensures) in
-    let part = part_kept h.schema h.rows i j c.schema.ensures.rows in
-    subst (λ s. AllFit s c.as_slice.result.now) (sym c.schema.ensures.is) (subst (AllFit h.schema) is (rows_fit h.schema (slice_range h.rows i j) part))
+    let part = range_is_rows h.schema h.rows i j c.schema.ensures.rows in
+    subst (λ s. AllFit s c.as_slice.result.now) (sym c.schema.ensures.is) (subst (AllFit h.schema) is (Each-weaker (IsRowOf h.schema) (Fits h.schema) (λ row one. one.fits) (slice_range h.rows i j) part.each))
 
 pub fold_all-requires-clause-in_order : goal.fold_all-requires-clause-in_order
 fold_all-requires-clause-in_order c =
     let h = c.args.self.now in
-    subst AreInRowOrder (sym (c.as_slice.ensures.value ∙ c.in_ok-rows.ensures)) (part_kept h.schema h.rows c.range-range.result.first c.range-range.result.last c.schema.ensures.rows).in_order
+    subst AreInRowOrder (sym (c.as_slice.ensures.value ∙ c.in_ok-rows.ensures)) (range_is_rows h.schema h.rows c.range-range.result.first c.range-range.result.last c.schema.ensures.rows).in_order
 
 pub fold_all-requires-clause-few : goal.fold_all-requires-clause-few
 fold_all-requires-clause-few c =
     let h = c.args.self.now in
-    subst (λ (rows : List Row). documents rows ≤ most_documents) (sym (c.as_slice.ensures.value ∙ c.in_ok-rows.ensures)) (part_kept h.schema h.rows c.range-range.result.first c.range-range.result.last c.schema.ensures.rows).few
+    subst (λ (rows : List Row). documents rows ≤ most_documents) (sym (c.as_slice.ensures.value ∙ c.in_ok-rows.ensures)) (range_is_rows h.schema h.rows c.range-range.result.first c.range-range.result.last c.schema.ensures.rows).few
 
 pub returns : goal.returns
 returns c =

@@ -10,5 +10,5 @@ returns-then-not-are_same-clause-none c none rows is =
     let made = subst (λ o. IsSomeAnd o (λ made. made.items ≡ rows)) c.in-Some.is (c.in_ok-rows.ensures.all rows is) in
     let spelled = subst (λ (h : Held). IsSegmentOf h.schema h.rows c.in_ok-spelled.spelled) c.in_ok-segment.ensures c.in_ok-spelled.ensures in
     let again = subst (λ rs. IsSegmentOf c.args.schema.now rs c.in_ok-spelled.spelled) (c.as_slice.ensures.value ∙ made) spelled in
-    let same = one_segment c.one_spelling.ensures.numbers c.one_spelling.ensures.column c.args.schema.now rows c.in_ok-spelled.spelled c.args.bytes.now again is in
+    let same = one_segment c.one_spelling.ensures.column c.args.schema.now rows c.in_ok-spelled.spelled c.args.bytes.now again is in
     bytes_eq_differ c.as_slice-2.result.now c.args.bytes.now (sym c.are_same.ensures ∙ c.if-not-are_same.true) (c.as_slice-2.ensures ∙ same)
