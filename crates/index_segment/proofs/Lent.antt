@@ -26,10 +26,11 @@ use Rattle.index_segment.proofs.Packable.{rows_short}
 use Rattle.index_segment.proofs.Places.{sizes_long}
 use Rattle.index_segment.proofs.Remade.{total_all, total_next}
 use Rattle.index_segment.proofs.Restored.{width_is}
-use Rattle.index_segment.proofs.Scanned.{keys_in_series, parts_long, series_made}
+use Rattle.index_segment.proofs.Scanned.{keys_in_series, series_made}
 use Rattle.index_segment.proofs.Series.{keys_ascend, stands, start_at, starts_long}
 use Rattle.index_segment.proofs.Alike.{one_front}
 use Rattle.std.proofs.lemmas.Option.{slice_get-get_or}
+use Rattle.packed_lists.specs.Laws.Picking.{range-map}
 
 -- ---- each series has a row
 
@@ -114,7 +115,10 @@ module _ (schema : Schema) (rows : List Row) (keys : List (List ℕ)) (starts : 
 
   pub parts_same : (i j : ℕ) (ts cs : List ℤ) → ts ≡ slice_range times i j → cs ≡ slice_range counts i j → length cs ≡ length ts
   parts_same i j ts cs ts_is cs_is =
-      parts_long rows i j ts cs (ts_is ∙ ap (λ xs. slice_range xs i j) p.times_are) (cs_is ∙ ap (λ xs. slice_range xs i j) p.counts_are)
+      let part = slice_range rows i j in
+      let a : length ts ≡ length part = ap length (ts_is ∙ (ap (λ xs. slice_range xs i j) p.times_are ∙ range-map (λ row. row.time) rows i j)) ∙ length-map part (λ row. row.time) in
+      let b : length cs ≡ length part = ap length (cs_is ∙ (ap (λ xs. slice_range xs i j) p.counts_are ∙ range-map (λ row. pos row.count) rows i j)) ∙ length-map part (λ row. pos row.count) in
+      b ∙ sym a
 
   -- rows of one series, put together from columns
   pub piece_is : (s i j : ℕ) (key : List ℕ) (forms : List Form) (heads : List Cell) (cols : List Values) (ts cs : List ℤ) → s < length (keys_of rows) → total s (sizes_of rows) ≤ i → j ≤ total (s + 1) (sizes_of rows)

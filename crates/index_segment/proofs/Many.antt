@@ -29,17 +29,6 @@ pub record AreLeft (schema : Schema) (all : List Held) (merged : Held) (left : L
   pub sorted : in_row_order merged.rows ≡ merged.rows
   pub whole : in_row_order (merged.rows ++ rows_in left) ≡ in_row_order (rows_in all)
 
-pub at_first : (schema : Schema) (parts : List Held) (merged : Held) → merged ≡ record { schema = schema; rows = [] } → Each (λ s. s.schema ≡ schema) parts → AreAllApart (map (λ s. s.rows) parts) → documents (rows_in parts) ≤ most_documents → AreLeft schema parts merged parts
-at_first schema parts merged is schemas apart few = rw is (record {
-  schema_is = refl;
-  schemas = schemas;
-  apart = apart;
-  beside = Each-all (AreApart []) (λ rows. tt) (map (λ s. s.rows) parts);
-  few = omega (arith, few);
-  sorted = refl;
-  whole = refl;
-})
-
 both_apart : (a b rows : List Row) → AreApart a rows → AreApart b rows → AreApart (in_row_order (a ++ b)) rows
 both_apart a b rows first second =
     let P : Row → Type 0 = λ r. Each (λ s. row_cmp r s ≡ Equal → ⊥) rows in
@@ -75,12 +64,3 @@ next_fits schema all merged part left rest left_is are = go (subst (AreLeft sche
       apart = l.beside.0;
       few = omega (arith, l.few, documents-append part.rows (rows_in rest));
     }
-
-pub all_merged : (schema : Schema) (all : List Held) (merged : Held) (left : List Held) → left ≡ [] → AreLeft schema all merged left → merged ≡ record { schema = schema; rows = in_row_order (rows_in all) }
-all_merged schema all merged left left_is are = go (subst (AreLeft schema all merged) left_is are)
-  where
-    held : Schema → List Row → Held
-    held s rows = record { schema = s; rows = rows }
-
-    go : AreLeft schema all merged [] → merged ≡ record { schema = schema; rows = in_row_order (rows_in all) }
-    go l = ap (λ s. held s merged.rows) l.schema_is ∙ ap (held schema) (sym l.sorted ∙ (ap in_row_order (sym (append-nil merged.rows)) ∙ l.whole))

@@ -23,7 +23,7 @@ use Rattle.index_segment.specs.Spelling.{counted}
 use Rattle.index_segment.proofs.HeldRows.{spread_rows}
 use Rattle.index_segment.proofs.Packable.{rows_short}
 use Rattle.index_segment.proofs.Places.{sizes_long}
-use Rattle.index_segment.proofs.Scanned.{keys_of_series, parts_long, series_made}
+use Rattle.index_segment.proofs.Scanned.{keys_of_series, series_made}
 use Rattle.index_segment.proofs.Series.{keys_ascend, stands}
 use Rattle.std.proofs.Math.Seq.{take-add}
 
@@ -77,10 +77,6 @@ module _ (schema : Schema) (rows : List Row) (keys : List (List ℕ)) (sizes tim
 
     pub ordered : (end : ℕ) → end ≡ total (suc series) (sizes_of rows) → start ≤ end
     ordered end is = omega (arith, start_is, is, stand.ordered)
-
-    pub same_length : (end : ℕ) (ts cs : List ℤ) → ts ≡ slice_range times start end → cs ≡ slice_range counts start end → length cs ≡ length ts
-    same_length end ts cs ts_is cs_is =
-        parts_long rows start end ts cs (ts_is ∙ ap (λ xs. slice_range xs start end) p.times_are) (cs_is ∙ ap (λ xs. slice_range xs start end) p.counts_are)
 
     pub remade : (end : ℕ) (forms : List Form) (heads : List Cell) (cols : List Values) (ts cs : List ℤ) → end ≡ total (suc series) (sizes_of rows) → forms ≡ forms_of schema → heads ≡ heads_in schema.fields key → cols ≡ map (rows_between start end) columns → ts ≡ slice_range times start end → cs ≡ slice_range counts start end → series_rows key forms heads cols 0 ts cs ≡ slice_range rows start end
     remade end forms heads cols ts cs end_is forms_is heads_is cols_is ts_is cs_is =

@@ -114,13 +114,6 @@ module _ (key : List ℕ) (from to : ℤ) (r : Row) where
       ap (λ b. (b && int_le from r.time) && int_lt r.time to) (ap (λ k. bytes_eq k key) same ∙ bytes_eq_itself key)
       ∙ (ap (λ b. b && int_lt r.time to) (is_up_to from r.time early) ∙ is_less r.time to late)
 
-  key_within : is_within key from to r ≡ true → r.key ≡ key
-  key_within is = go (bytes_eq r.key key) refl is
-    where
-      go : (v : Bool) → bytes_eq r.key key ≡ v → (v && int_le from r.time) && int_lt r.time to ≡ true → r.key ≡ key
-      go true e is = bytes_eq_same r.key key e
-      go false e is = cc
-
 -- ---- a filter that passes a range
 
 filter_none : {A : Type 0} (p : A → Bool) (xs : List A) → ((k : ℕ) (x : A) → slice_get xs k ≡ Some x → p x ≡ false) → filter p xs ≡ []
@@ -224,12 +217,6 @@ made_range schema rows key i j mapped each keys =
 -- the same of parts that are equal to these
 pub series_made : (schema : Schema) (rows : List Row) (key : List ℕ) (i j : ℕ) (forms : List Form) (heads : List Cell) (cols : List Values) (ts cs : List ℤ) → IsMapped schema → Each (IsRowOf schema) rows → Each (λ row. row.key ≡ key) (slice_range rows i j) → forms ≡ forms_of schema → heads ≡ heads_in schema.fields key → cols ≡ map (rows_between i j) (columns_of schema rows) → ts ≡ slice_range (times_of rows) i j → cs ≡ slice_range (counts_of rows) i j → series_rows key forms heads cols 0 ts cs ≡ slice_range rows i j
 series_made schema rows key i j forms heads cols ts cs mapped each keys forms_is heads_is cols_is ts_is cs_is = rw (forms_is, heads_is, cols_is, ts_is, cs_is) (made_range schema rows key i j mapped each keys)
-
--- a range has as many counts as times
-pub parts_long : (rows : List Row) (i j : ℕ) (ts cs : List ℤ) → ts ≡ slice_range (times_of rows) i j → cs ≡ slice_range (counts_of rows) i j → length cs ≡ length ts
-parts_long rows i j ts cs ts_is cs_is =
-    let part = slice_range rows i j in
-    ap length (cs_is ∙ range-map (λ row. pos row.count) rows i j) ∙ (length-map part (λ row. pos row.count) ∙ sym (ap length (ts_is ∙ range-map (λ row. row.time) rows i j) ∙ length-map part (λ row. row.time)))
 
 -- ---- the rows of a whole series
 
