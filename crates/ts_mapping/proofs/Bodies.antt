@@ -1,8 +1,7 @@
 -- What a body gives that no look refuses is a template.
-use Rattle.std.proofs.Common.{◌≡◌, ℕ, List, [], ◌∷◌, ◌++◌, Bool, true, false, Option, Some, None, refl, sym, ap, ◌∙◌, subst}
+use Rattle.std.proofs.Common.{◌≡◌, ℕ, List, [], ◌∷◌, ◌++◌, true, false, Option, Some, None, refl, sym, ap, ◌∙◌, subst}
 use Rattle.serde_json.specs.Data.{Data}
-use Rattle.ts_mapping.specs.Facts.{IsTemplate}
-use Rattle.ts_mapping.specs.Faults.{first_of, look, looks, refusal_of}
+use Rattle.ts_mapping.specs.Faults.{first_of, look, refusal_of}
 use Rattle.ts_mapping.specs.Laws.{BodiesAreTemplates}
 use Rattle.ts_mapping.specs.Least.{least}
 use Rattle.ts_mapping.specs.Looks.{early_looks, late_looks}

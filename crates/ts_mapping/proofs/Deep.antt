@@ -8,8 +8,8 @@ use Rattle.std.proofs.lemmas.Cmp.{nat_cmp_total}
 use Rattle.std.proofs.lemmas.List.{append_assoc, length-append, length-drop}
 use Rattle.std.proofs.lemmas.Slice.Eq.{bytes_eq-Decides}
 use Rattle.serde_json.specs.Data.{Data, null, boolean, number, string, array, object, Members, no_members, member}
-use Rattle.ts_mapping.specs.Least.{all_faults, fault_unless, least, least_with, lesser, under}
-use Rattle.ts_mapping.specs.LeastLaws.{IsAtMost, at_most_chain, not_behind}
+use Rattle.ts_mapping.specs.Least.{all_faults, fault_unless, least, least_with, lesser, under, IsAtMost}
+use Rattle.ts_mapping.specs.LeastLaws.{at_most_chain, not_behind}
 use Rattle.ts_mapping.specs.Limits.{longest_setting}
 use Rattle.ts_mapping.specs.Paths.{is_among}
 use Rattle.ts_mapping.specs.Settings.{Setting, flat, flat_members, is_known, key_names, short_path, unknown_setting}

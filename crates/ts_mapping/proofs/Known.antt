@@ -2,8 +2,8 @@
 use Rattle.std.proofs.Common.{◌≡◌, ℕ, suc, List, [], ◌∷◌, ◌++◌, Bool, true, false, ◌||◌, ◌&&◌, filter, length, nat_le, Some, None, refl, sym, ap, ◌∙◌}
 use Rattle.std.specs.Prelude.{codes, bytes_eq, if◌then◌else◌, is_some}
 use Rattle.serde_json.specs.Data.{Data}
+use Rattle.std.proofs.lemmas.Bool.{or_right}
 use Rattle.ts_mapping.specs.Least.{all_faults, fault_unless, least}
-use Rattle.ts_mapping.specs.PathLaws.{or_second}
 use Rattle.ts_mapping.specs.Properties.{properties_of}
 use Rattle.ts_mapping.specs.Settings.{Setting, faults_at_key, has_key, is_formed, is_known, is_named, key_fault, setting_place, settings_faults, settings_of, short_path, times_given, unknown_setting, value_of}
 use Rattle.ts_mapping.specs.Shapes.{body_faults, property_faults, shape_faults, template_faults}
@@ -20,11 +20,11 @@ first_or false b is = cc
 named_known : (key : Key) (path : List ℕ) → is_named key path ≡ true → is_known path ≡ true
 unfolding is_known is_named
 named_known Mode path is = first_or (bytes_eq (short_path path) (codes "mode")) _ is
-named_known RoutingPath path is = or_second (bytes_eq (short_path path) (codes "mode")) _ (first_or (bytes_eq (short_path path) (codes "routing_path")) _ is)
-named_known Shards path is = or_second (bytes_eq (short_path path) (codes "mode")) _ (or_second (bytes_eq (short_path path) (codes "routing_path")) _ (first_or (bytes_eq (short_path path) (codes "number_of_shards")) _ is))
-named_known LookBack path is = or_second (bytes_eq (short_path path) (codes "mode")) _ (or_second (bytes_eq (short_path path) (codes "routing_path")) _ (or_second (bytes_eq (short_path path) (codes "number_of_shards")) _ (first_or (bytes_eq (short_path path) (codes "look_back_time")) _ is)))
-named_known LookAhead path is = or_second (bytes_eq (short_path path) (codes "mode")) _ (or_second (bytes_eq (short_path path) (codes "routing_path")) _ (or_second (bytes_eq (short_path path) (codes "number_of_shards")) _ (or_second (bytes_eq (short_path path) (codes "look_back_time")) _ (first_or (bytes_eq (short_path path) (codes "look_ahead_time")) _ is))))
-named_known Replicas path is = or_second (bytes_eq (short_path path) (codes "mode")) _ (or_second (bytes_eq (short_path path) (codes "routing_path")) _ (or_second (bytes_eq (short_path path) (codes "number_of_shards")) _ (or_second (bytes_eq (short_path path) (codes "look_back_time")) _ (or_second (bytes_eq (short_path path) (codes "look_ahead_time")) _ (first_or (bytes_eq (short_path path) (codes "number_of_replicas")) _ is)))))
+named_known RoutingPath path is = or_right (bytes_eq (short_path path) (codes "mode")) _ (first_or (bytes_eq (short_path path) (codes "routing_path")) _ is)
+named_known Shards path is = or_right (bytes_eq (short_path path) (codes "mode")) _ (or_right (bytes_eq (short_path path) (codes "routing_path")) _ (first_or (bytes_eq (short_path path) (codes "number_of_shards")) _ is))
+named_known LookBack path is = or_right (bytes_eq (short_path path) (codes "mode")) _ (or_right (bytes_eq (short_path path) (codes "routing_path")) _ (or_right (bytes_eq (short_path path) (codes "number_of_shards")) _ (first_or (bytes_eq (short_path path) (codes "look_back_time")) _ is)))
+named_known LookAhead path is = or_right (bytes_eq (short_path path) (codes "mode")) _ (or_right (bytes_eq (short_path path) (codes "routing_path")) _ (or_right (bytes_eq (short_path path) (codes "number_of_shards")) _ (or_right (bytes_eq (short_path path) (codes "look_back_time")) _ (first_or (bytes_eq (short_path path) (codes "look_ahead_time")) _ is))))
+named_known Replicas path is = or_right (bytes_eq (short_path path) (codes "mode")) _ (or_right (bytes_eq (short_path path) (codes "routing_path")) _ (or_right (bytes_eq (short_path path) (codes "number_of_shards")) _ (or_right (bytes_eq (short_path path) (codes "look_back_time")) _ (or_right (bytes_eq (short_path path) (codes "look_ahead_time")) _ (first_or (bytes_eq (short_path path) (codes "number_of_replicas")) _ is)))))
 
 unknown_unnamed : (key : Key) (s : Setting) → is_known s.path ≡ false → has_key key s ≡ false
 unknown_unnamed key s is = go (has_key key s) refl

@@ -8,10 +8,10 @@ use Rattle.row_cells.specs.Dimensions.{IsBefore}
 use Rattle.row_cells.specs.Fitting.{FieldsAscendAfter}
 use Rattle.row_cells.specs.JoinLaws.{before_of_after}
 use Rattle.row_cells.specs.Joining.{IsIn}
+use Rattle.std.proofs.lemmas.Bool.{or_right}
 use Rattle.ts_mapping.specs.Fields.{field_of, paths_of, put_field, put_if, with_fields}
 use Rattle.ts_mapping.specs.Paths.{is_among}
 use Rattle.ts_mapping.specs.Properties.{Property}
-use Rattle.ts_mapping.specs.PathLaws.{or_second}
 use Rattle.ts_mapping.proofs.Sets.{swap, twice}
 
 abbrev pub AllOf : (Field → Type 0) → List Field → Type 0
@@ -102,7 +102,7 @@ with_keeps q fs (p ∷ ps) is = with_keeps q (put_if (field_of p) fs) ps (go (fi
   where
     go : (o : Option Field) → is_among q (field_paths (put_if o fs)) ≡ true
     go None = is
-    go (Some f) = put_paths q f fs ∙ or_second (bytes_eq q f.path) (is_among q (field_paths fs)) is
+    go (Some f) = put_paths q f fs ∙ or_right (bytes_eq q f.path) (is_among q (field_paths fs)) is
 
 -- each property is a field at its path
 abbrev pub AreAllFields : List Property → Type 0

@@ -10,6 +10,8 @@ use Rattle.serde_json.specs.Find.{as_number, as_str, as_u64, get}
 use Rattle.time_text.specs.Interval.{interval_of}
 use Rattle.time_text.specs.Unit.{unit_ms}
 use Rattle.time_text.specs.declared.units.Unit.{Unit as IntervalUnit}
+use Rattle.json_walk.specs.Shapes.{is_object, texts_of}
+use Rattle.time_text.specs.ShapeLaws.{first_true, second_true}
 use Rattle.ts_mapping.specs.Faults.{given_shards, look, refusal_of, shards_in}
 use Rattle.index_names.specs.Patterns.{is_pattern}
 use Rattle.ts_mapping.specs.Limits.{greatest_priority, longest_look, most_patterns, most_shards, shortest_look, usual_look_ahead, usual_look_back}
@@ -19,13 +21,12 @@ use Rattle.ts_mapping.specs.Ranges.{IsInRange, IsLook}
 use Rattle.ts_mapping.specs.Settings.{Setting, in_look, in_shards, look_of, settings_faults, settings_of, shards_of, value_of}
 use Rattle.ts_mapping.specs.Shapes.{body_faults, checked_patterns, choice_faults, given_priority, in_priority, names_faults, patterns_of, priority_of, property_faults, shape_faults, stream_faults, template_faults}
 use Rattle.ts_mapping.specs.Templates.{look_at, template_of}
-use Rattle.ts_mapping.specs.Trees.{has_to_be, is_object, texts_of}
+use Rattle.ts_mapping.specs.Trees.{has_to_be}
 use Rattle.ts_mapping.specs.declared.kinds.MapKind.TheVariants.{Shape}
 use Rattle.ts_mapping.specs.declared.settings.Key.{Key}
 use Rattle.ts_mapping.specs.declared.settings.Key.TheVariants.{LookAhead, LookBack, Shards}
 use Rattle.ts_mapping.specs.declared.templates.Template.{Template}
 use Rattle.ts_mapping.proofs.Nothing.{first_look, first_nothing, holds, look_nothing, second_nothing}
-use Rattle.ts_mapping.specs.PathLaws.{first_true, second_true}
 
 -- ---- patterns
 

@@ -3,13 +3,13 @@ use Rattle.std.proofs.Common.{◌≡◌, ℕ, List, ◌∷◌, ◌++◌, Option,
 use Rattle.std.specs.Prelude.{option_and_then}
 use Rattle.serde_json.specs.Data.{Data}
 use Rattle.row_cells.specs.declared.schemas.Field.{Field}
+use Rattle.json_walk.specs.Shapes.{texts_of}
 use Rattle.ts_mapping.specs.Faults.{entries_of, fault_at, first_of, leaves_of, refusal_of}
 use Rattle.ts_mapping.specs.Looks.{early_looks, field_looks, late_looks, routing_looks}
 use Rattle.ts_mapping.specs.Fields.{fields_of}
 use Rattle.ts_mapping.specs.Properties.{Property}
 use Rattle.ts_mapping.specs.Settings.{Setting, settings_of, value_of}
 use Rattle.ts_mapping.specs.Templates.{schema_of, schema_with, template_of}
-use Rattle.ts_mapping.specs.Trees.{texts_of}
 use Rattle.ts_mapping.specs.declared.settings.Key.TheVariants.{RoutingPath}
 use Rattle.ts_mapping.specs.Least.{least}
 use Rattle.ts_mapping.specs.Shapes.{shape_faults}

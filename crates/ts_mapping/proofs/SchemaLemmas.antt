@@ -3,17 +3,18 @@ use Rattle.std.proofs.Common.{◌≡◌, ◌≤◌, ◌<◌, ◌+◌, ℕ, suc, 
 use Rattle.serde_json.specs.Data.{Data}
 use lib.Utf8.{encode}
 use Rattle.std.specs.Str.{IsUtf8}
-use Rattle.std.proofs.lemmas.Bool.{leb-true}
-use Rattle.std.proofs.lemmas.Str.{is_utf8-from_IsUtf8}
+use Rattle.std.proofs.lemmas.Bool.{leb-true, or_right}
 use Rattle.row_cells.specs.declared.schemas.FieldType.{FieldType}
-use Rattle.row_cells.specs.declared.schemas.FieldType.TheVariants.{Date, Keyword, Long, Integer, Short, Byte, Boolean, Aggregate}
+use Rattle.row_cells.specs.declared.schemas.FieldType.TheVariants.{Date}
 use Rattle.row_cells.specs.declared.schemas.Role.{Role}
-use Rattle.row_cells.specs.declared.schemas.Role.TheVariants.{Time, Dimension, Gauge, Counter, Label}
+use Rattle.row_cells.specs.declared.schemas.Role.TheVariants.{Time, Dimension}
 use Rattle.row_cells.specs.declared.schemas.Field.{Field}
 use Rattle.row_cells.specs.Dimensions.{IsBefore}
 use Rattle.row_cells.specs.Fitting.{FieldsAscendAfter}
 use Rattle.row_cells.specs.Joining.{IsIn}
 use Rattle.row_cells.specs.Mapped.{AreDimensionsAt, ArePaths, IsDimensionAt, IsPath, PlacesAscendFrom}
+use Rattle.time_text.specs.ShapeLaws.{first_true, second_true}
+use Rattle.ts_mapping.specs.RoleLaws.{date_is, dimension_is}
 use Rattle.ts_mapping.specs.Faults.{bad_entries, below_fault, clash_faults, count_faults, dimension_faults, dynamic_faults, entries_of, first_of, is_below_any, leaves_of, look, number_of_fields, repeated, role_faults, routing_faults, shards_faults, shards_in, strict_of, timestamp_faults, type_faults}
 use Rattle.ts_mapping.specs.Looks.{early_looks, late_looks}
 use Rattle.ts_mapping.specs.Fields.{added_time, dimension_paths, fields_of, has_time, is_dimension_role, is_listed, paths_of, routing_from, with_fields}
@@ -21,7 +22,7 @@ use Rattle.ts_mapping.specs.Limits.{most_fields}
 use Rattle.ts_mapping.specs.Least.{all_faults, fault_unless, least}
 use Rattle.ts_mapping.specs.Paths.{has_path_form, is_among, is_below, is_field_path, timestamp}
 use Rattle.ts_mapping.specs.Properties.{Property, properties_of}
-use Rattle.ts_mapping.specs.Roles.{is_date, may_have}
+use Rattle.ts_mapping.specs.Roles.{may_have}
 use Rattle.ts_mapping.specs.Schemas.{AreApart, AreTemplateFields, IsTemplateField, IsTemplateSchema, time_field}
 use Rattle.ts_mapping.specs.Templates.{schema_of, schema_with}
 use Rattle.ts_mapping.specs.Settings.{settings_faults, settings_of}
@@ -29,7 +30,7 @@ use Rattle.ts_mapping.specs.Shapes.{body_faults, property_faults, shape_faults, 
 use Rattle.ts_mapping.specs.declared.kinds.MapKind.TheVariants.{BadShards, BadDynamic, UnknownType, TooManyFields, PathClash, BadTimestamp, BadRole, NoDimension, BadRouting}
 use Rattle.ts_mapping.proofs.Nothing.{first_look, first_nothing, holds, later_looks, look_nothing, no_paths, second_nothing}
 use Rattle.ts_mapping.proofs.Placing.{AllBy, AllOf, field_paths, of_all, with_all, with_ascends, with_gets, with_keeps, with_length}
-use Rattle.ts_mapping.specs.PathLaws.{exact, first_true, in_any, itself, of_text, or_second, second_true, text_path}
+use Rattle.ts_mapping.specs.PathLaws.{exact, in_any, itself, of_text, text_path}
 use Rattle.ts_mapping.proofs.Sound.{AreSound, all_fields, all_sent, all_template, sound_leaves}
 
 -- ---- the field of the time
@@ -63,20 +64,10 @@ template_fields : (fs : List Field) → AllOf IsTemplateField fs → AreTemplate
 template_fields [] all = tt
 template_fields (f ∷ fs) all = (all.0, template_fields fs all.1)
 
-date_kind : (kind : FieldType) → is_date kind ≡ true → kind ≡ Date
-date_kind Date is = refl
-date_kind Keyword is = cc
-date_kind Long is = cc
-date_kind Integer is = cc
-date_kind Short is = cc
-date_kind Byte is = cc
-date_kind Boolean is = cc
-date_kind Aggregate is = cc
-
 is_time_field : (f : Field) → IsTemplateField f → f.path ≡ timestamp → time_field ≡ f
 is_time_field f is here =
     let role : f.role ≡ Time = is.time.1 here in
-    let kind : f.kind ≡ Date = date_kind f.kind (subst (λ r. may_have f.kind r ≡ true) role is.role) in
+    let kind : f.kind ≡ Date = date_is f.kind (subst (λ r. may_have f.kind r ≡ true) role is.role) in
     rebuilt f.path f.kind f.role here kind role
   where
     rebuilt : (path : List ℕ) (kind : FieldType) (role : Role) → path ≡ timestamp → kind ≡ Date → role ≡ Time → time_field ≡ record { path = path; kind = kind; role = role }
@@ -188,7 +179,7 @@ apart : (ps : List Property) → AreSound ps → clash_faults ps ≡ [] → AreA
 unfolding clash_faults
 apart ps are none = λ f g in_f in_g.
     let all = timestamp ∷ paths_of ps in
-    let sent : AllOf (λ h. is_among h.path all ≡ true) (fields_of ps) = fields_all (λ h. is_among h.path all ≡ true) ps (ap (λ b. b || is_among timestamp (paths_of ps)) (itself timestamp)) (all_sent all ps are (λ q is. or_second (bytes_eq q timestamp) (is_among q (paths_of ps)) is)) in
+    let sent : AllOf (λ h. is_among h.path all ≡ true) (fields_of ps) = fields_all (λ h. is_among h.path all ≡ true) ps (ap (λ b. b || is_among timestamp (paths_of ps)) (itself timestamp)) (all_sent all ps are (λ q is. or_right (bytes_eq q timestamp) (is_among q (paths_of ps)) is)) in
     let below = second_nothing (repeated [] (paths_of ps)) (all_faults (below_fault all) (paths_of ps)) none in
     go f.path g.path (of_all (λ h. is_among h.path all ≡ true) f (fields_of ps) sent in_f) (of_all (λ h. is_among h.path all ≡ true) g (fields_of ps) sent in_g) below
   where
@@ -200,13 +191,6 @@ apart ps are none = λ f g in_f in_g.
         by false same is = one_below p q (timestamp ∷ paths_of ps) (below_none (timestamp ∷ paths_of ps) (paths_of ps) below p is) is_q
 
 -- ---- routing
-
-dimension_is : (role : Role) → is_dimension_role role ≡ true → role ≡ Dimension
-dimension_is Time is = cc
-dimension_is Dimension is = refl
-dimension_is Gauge is = cc
-dimension_is Counter is = cc
-dimension_is Label is = cc
 
 -- a place behind another list
 front_dimension : (front : List Field) (f : Field) (fs : List Field) → f.role ≡ Dimension → IsDimensionAt (front ++ f ∷ fs) (length front)

@@ -6,15 +6,16 @@ use Rattle.std.specs.BTreeMap.{is_at}
 use Rattle.std.specs.BTreeSet.{insert_key}
 use Rattle.std.specs.Cmp.Lexicographic.{slice_cmp}
 use Rattle.std.specs.List.{list_any}
-use Rattle.std.specs.Ordering.{nat_cmp, match_ordering, is_eq}
+use Rattle.std.specs.Ordering.{nat_cmp, match_ordering}
 use Rattle.std.proofs.lemmas.Map.Text.{is_eq-slice_cmp}
-use Rattle.std.proofs.lemmas.Slice.Eq.{bytes_eq-Decides}
 use Rattle.row_cells.specs.declared.schemas.Field.{Field}
+use Rattle.std.proofs.lemmas.Bool.{both_ways}
+use Rattle.std.proofs.lemmas.Map.Lookups.{exact_bytes}
 use Rattle.ts_mapping.specs.Faults.{bad_entries, below_fault, clash_faults, entry_faults, repeated}
 use Rattle.ts_mapping.specs.Fields.{is_dimension_role, paths_of, routing_from}
 use Rattle.ts_mapping.specs.Least.{all_faults, fault_unless, least, least_with}
 use Rattle.ts_mapping.proofs.LeastLemmas.{least_with_append}
-use Rattle.ts_mapping.specs.PathLaws.{any_in, in_any, not_both}
+use Rattle.ts_mapping.specs.PathLaws.{any_in, in_any}
 use Rattle.ts_mapping.specs.Paths.{is_among, is_below, timestamp}
 use Rattle.ts_mapping.specs.Properties.{Property}
 
@@ -40,15 +41,12 @@ swap true false c = refl
 swap false true c = refl
 swap false false c = refl
 
-same_bytes : (x y : List ℕ) → slice_cmp nat_cmp x y ≡ Equal → x ≡ y
-same_bytes x y is = (bytes_eq-Decides x y).0 (sym (is_eq-slice_cmp x y) ∙ ap is_eq is)
-
 has_placed : (q : List ℕ) (k x : Vec ℕ Global) (xs : List (Vec ℕ Global)) (o : Ordering) → order k x ≡ o
     → is_among q (paths_in (insert_key order xs k)) ≡ bytes_eq q k.items || is_among q (paths_in xs)
     → is_among q (paths_in (match_ordering o (k ∷ x ∷ xs) (x ∷ xs) (x ∷ insert_key order xs k))) ≡ bytes_eq q k.items || is_among q (paths_in (x ∷ xs))
 has_placed q k x xs Less is later = refl
 has_placed q k x xs Equal is later =
-    let same : k.items ≡ x.items = same_bytes k.items x.items is in
+    let same : k.items ≡ x.items = exact_bytes k.items x.items is in
     rw same (twice (bytes_eq q x.items) (is_among q (paths_in xs)))
 has_placed q k x xs Greater is later =
     ap (λ b. bytes_eq q x.items || b) later ∙ swap (bytes_eq q x.items) (bytes_eq q k.items) (is_among q (paths_in xs))
@@ -69,8 +67,8 @@ any_same f ps qs same = go (list_any f ps) (list_any f qs) refl refl
     go : (a b : Bool) → list_any f ps ≡ a → list_any f qs ≡ b → list_any f ps ≡ list_any f qs
     go true true p q = p ∙ sym q
     go false false p q = p ∙ sym q
-    go true false p q = let one = any_in f ps p in absurd (not_both (list_any f qs) (in_any f one.path qs (sym (same one.path) ∙ one.among) one.pass) q)
-    go false true p q = let one = any_in f qs q in absurd (not_both (list_any f ps) (in_any f one.path ps (same one.path ∙ one.among) one.pass) p)
+    go true false p q = let one = any_in f ps p in absurd (both_ways (list_any f qs) q (in_any f one.path qs (sym (same one.path) ∙ one.among) one.pass))
+    go false true p q = let one = any_in f qs q in absurd (both_ways (list_any f ps) p (in_any f one.path ps (same one.path ∙ one.among) one.pass))
 
 -- ---- looks that only ask which paths stand before
 

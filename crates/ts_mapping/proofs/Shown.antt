@@ -1,7 +1,7 @@
 -- A body that shows a template: what it is, and what each of its fields shows.
-use Rattle.std.proofs.Common.{◌≡◌, ℕ, List, [], ◌∷◌, ◌++◌, Bool, true, false, Option, Some, None, map, refl, ap, ◌∙◌, unsigned_abs}
+use Rattle.std.proofs.Common.{◌≡◌, ℕ, List, [], ◌∷◌, Bool, true, false, Some, refl, ap}
 use Rattle.std.specs.Prelude.{codes, is_some}
-use Rattle.serde_json.specs.Data.{Data, boolean, number, string, array, object, unsigned, Items, no_items, item, Members, no_members, member}
+use Rattle.serde_json.specs.Data.{Data, boolean, string, array, object, Items, no_items, item, Members, no_members, member}
 use Rattle.serde_json.specs.Find.{get}
 use Rattle.row_cells.specs.declared.schemas.FieldType.{FieldType}
 use Rattle.row_cells.specs.declared.schemas.FieldType.TheVariants.{Date, Keyword, Long, Integer, Short, Byte, Boolean, Aggregate}
@@ -10,14 +10,13 @@ use Rattle.row_cells.specs.declared.schemas.Role.TheVariants.{Time, Dimension, G
 use Rattle.row_cells.specs.declared.schemas.Field.{Field}
 use Rattle.time_text.specs.Interval.{interval_text}
 use Rattle.time_text.specs.declared.units.Unit.TheVariants.{Ms}
+use Rattle.json_walk.specs.Shapes.{texts_in, with_text}
 use Rattle.ts_mapping.specs.Faults.{is_time}
 use Rattle.ts_mapping.specs.Fields.{is_dimension, kind_of, metric_of, role_by, time_role}
 use Rattle.ts_mapping.specs.Least.{under}
-use Rattle.ts_mapping.specs.Properties.{Placed, Property, inside, leaves_in, listed_members, property_at, single}
+use Rattle.ts_mapping.specs.Properties.{Placed, Property, property_at, single}
 use Rattle.ts_mapping.specs.Roles.{may_have}
 use Rattle.ts_mapping.specs.Shapes.{aggregate_faults, level_faults, member_faults, value_faults}
-use Rattle.ts_mapping.specs.Trees.{texts_in, with_text}
-use Rattle.ts_mapping.specs.declared.templates.Template.{Template}
 
 -- ---- texts
 

@@ -1,33 +1,31 @@
 -- A body that shows a template is refused by no look, and gives the template.
-use Rattle.std.proofs.Common.{◌≡◌, ◌≤◌, ◌+◌, ◌-◌, ◌*◌, ◌&&◌, ℕ, ℤ, pos, List, [], ◌∷◌, ◌++◌, Bool, true, false, cond, Option, Some, None, length, map, nat_le, bytes_eq, refl, sym, ap, ap₂, ◌∙◌, subst, arith}
+use Rattle.std.proofs.Common.{◌≡◌, ◌≤◌, ◌+◌, ◌-◌, ◌*◌, ℕ, ℤ, pos, List, [], ◌∷◌, ◌++◌, Bool, true, false, cond, Option, Some, None, length, map, nat_le, refl, sym, ap, ap₂, ◌∙◌, subst, arith}
 use Rattle.std.specs.Prelude.{codes, is_some, option_and_then, unwrap_or}
 use Rattle.std.specs.List.{list_all}
 use Rattle.std.proofs.lemmas.Bool.{le-leb}
-use Rattle.serde_json.specs.Data.{Data, number, string, array, object, Num, unsigned, Items, Members}
-use Rattle.serde_json.specs.Find.{get}
+use Rattle.serde_json.specs.Data.{Data, number, array, object, unsigned, Items, Members}
 use Rattle.index_names.specs.Patterns.{is_pattern}
 use Rattle.row_cells.specs.declared.schemas.Field.{Field}
 use Rattle.row_cells.specs.declared.schemas.Schema.{Schema}
 use Rattle.row_cells.specs.Mapped.{PlacesAscendFrom}
-use Rattle.time_text.specs.Interval.{interval_of, interval_text}
 use Rattle.time_text.specs.IntervalLaws.{reads_back}
 use Rattle.time_text.specs.Unit.{unit_ms}
 use Rattle.time_text.specs.declared.units.Unit.TheVariants.{Ms}
+use Rattle.json_walk.specs.Shapes.{texts_in}
+use Rattle.time_text.specs.ShapeLaws.{both_true}
 use Rattle.ts_mapping.specs.Checks.{field_paths}
 use Rattle.ts_mapping.specs.Facts.{IsTemplate}
 use Rattle.ts_mapping.specs.Faults.{bad_entries, below_fault, clash_faults, count_faults, dimension_faults, dynamic_faults, entries_of, first_of, leaves_of, look, number_of_fields, refusal_of, repeated, role_faults, routing_faults, shards_faults, shards_in, strict_of, timestamp_faults, type_faults}
-use Rattle.ts_mapping.specs.Fields.{dimension_paths, fields_of, has_time, paths_of, routing_from, with_fields}
+use Rattle.ts_mapping.specs.Fields.{dimension_paths, fields_of, has_time, routing_from, with_fields}
 use Rattle.ts_mapping.specs.Laws.{TemplatesHaveBodies}
 use Rattle.ts_mapping.specs.Least.{all_faults, fault_unless}
 use Rattle.ts_mapping.specs.Limits.{greatest_priority, longest_look, most_fields, most_patterns, most_shards, shortest_look}
 use Rattle.ts_mapping.specs.Paths.{is_among, timestamp}
 use Rattle.ts_mapping.specs.Properties.{leaves_in, properties_of}
-use Rattle.ts_mapping.specs.Ranges.{IsInRange, IsLook}
 use Rattle.ts_mapping.specs.Schemas.{AreTemplateFields, time_field}
-use Rattle.ts_mapping.specs.Settings.{Setting, in_look, in_shards, is_known, is_named, look_of, setting_place, settings_faults, settings_of}
-use Rattle.ts_mapping.specs.Shapes.{body_faults, checked_patterns, choice_faults, in_priority, mappings_faults, names_faults, patterns_of, priority_of, property_faults, shape_faults, stream_faults, template_faults, template_member_faults}
+use Rattle.ts_mapping.specs.Settings.{in_look, in_shards, is_known, is_named, look_of, settings_faults, settings_of}
+use Rattle.ts_mapping.specs.Shapes.{body_faults, checked_patterns, choice_faults, mappings_faults, names_faults, patterns_of, priority_of, property_faults, shape_faults, stream_faults, template_faults, template_member_faults}
 use Rattle.ts_mapping.specs.Templates.{look_at, schema_of, schema_with, template_of}
-use Rattle.ts_mapping.specs.Trees.{texts_in}
 use Rattle.ts_mapping.specs.declared.faults.Fault.{Fault}
 use Rattle.ts_mapping.specs.declared.kinds.MapKind.{MapKind}
 use Rattle.ts_mapping.specs.declared.kinds.MapKind.TheVariants.{Shape, BadShards, BadDynamic, UnknownType, TooManyFields, PathClash, BadTimestamp, BadRole, NoDimension, BadRouting}
@@ -37,19 +35,16 @@ use Rattle.ts_mapping.proofs.Shown.{leaf_of, look_text, placed_at, shown_body, s
 use Rattle.ts_mapping.proofs.ShownFields.{AreRouted, all_leaves, all_listed, all_put, entries_from, leaf_count, leaf_paths, none_bad, none_below, none_formed, none_repeated, none_untimely, none_untyped, none_without_role, routed_first, routes_back, some_dimension, some_entries}
 use Rattle.ts_mapping.proofs.Tested.{in_paths}
 
-both : (a b : Bool) → a ≡ true → b ≡ true → (a && b) ≡ true
-both a b p q = ap₂ (λ x y. x && y) p q
-
 none_both : (ps qs : List (List ℕ)) → ps ≡ [] → qs ≡ [] → ps ++ qs ≡ []
 none_both ps qs first second = ap₂ (λ xs ys. xs ++ ys) first second
 
 -- ---- values
 
 shards_read : (n : ℕ) → (1 ≤ n) × (n ≤ most_shards) → in_shards n ≡ Some n
-shards_read n is = ap (λ b. cond b (Some n) None) (both (nat_le 1 n) (nat_le n most_shards) (le-leb 1 n is.0) (le-leb n most_shards is.1))
+shards_read n is = ap (λ b. cond b (Some n) None) (both_true (nat_le 1 n) (nat_le n most_shards) (le-leb 1 n is.0) (le-leb n most_shards is.1))
 
 look_within : (n : ℕ) → shortest_look ≤ n → n ≤ longest_look → in_look n ≡ Some (pos n)
-look_within n low high = ap (λ b. cond b (Some (pos n)) None) (both (nat_le shortest_look n) (nat_le n longest_look) (le-leb shortest_look n low) (le-leb n longest_look high))
+look_within n low high = ap (λ b. cond b (Some (pos n)) None) (both_true (nat_le shortest_look n) (nat_le n longest_look) (le-leb shortest_look n low) (le-leb n longest_look high))
 
 look_read : (n : ℕ) → shortest_look ≤ n → n ≤ longest_look → look_of (look_text n) ≡ Some (pos n)
 look_read n low high =
@@ -163,8 +158,8 @@ module _ (t : Template) (is : IsTemplate t) where
   own_patterns =
       patterns_given (shown_texts t.patterns) t.priority (shown_texts entries) t.shards back_ms ahead_ms t.strict (shown_fields all) t.patterns (texts_back t.patterns)
       ∙ ap (λ b. cond b (Some t.patterns) None)
-      (both (nat_le 1 (length t.patterns)) _ (le-leb 1 (length t.patterns) is.ranges.some)
-      (both (nat_le (length t.patterns) most_patterns) (list_all is_pattern t.patterns) (le-leb (length t.patterns) most_patterns is.ranges.few) is.ranges.patterns))
+      (both_true (nat_le 1 (length t.patterns)) _ (le-leb 1 (length t.patterns) is.ranges.some)
+      (both_true (nat_le (length t.patterns) most_patterns) (list_all is_pattern t.patterns) (le-leb (length t.patterns) most_patterns is.ranges.few) is.ranges.patterns))
 
   own_priority : priority_of own ≡ Some t.priority
   own_priority = priority_given (shown_texts t.patterns) t.priority (shown_texts entries) t.shards back_ms ahead_ms t.strict (shown_fields all) is.ranges.priority

@@ -1,9 +1,8 @@
 -- What the fields of a body that shows a template are read as.
-use Rattle.std.proofs.Common.{◌≡◌, ◌≤◌, ◌<◌, ◌+◌, ◌-◌, ◌==◌, ◌||◌, ◌&&◌, ℕ, zero, suc, List, [], ◌∷◌, ◌++◌, Bool, true, false, cond, not, Option, Some, None, Ordering, Less, Equal, Greater, length, map, nat_le, bytes_eq, refl, sym, ap, ap₂, ◌∙◌, subst, arith, append_assoc, append-nil, ◌⊎◌, inl, inr}
+use Rattle.std.proofs.Common.{◌≡◌, ◌≤◌, ◌-◌, ◌==◌, ◌||◌, ◌&&◌, ℕ, zero, suc, List, [], ◌∷◌, ◌++◌, Bool, true, false, cond, not, Some, None, length, map, bytes_eq, refl, sym, ap, ap₂, ◌∙◌, subst, arith, append_assoc, append-nil, ◌⊎◌, inl, inr}
 use Rattle.std.specs.Prelude.{is_some, option_and_then, if◌then◌else◌}
-use Rattle.std.specs.Cmp.Lexicographic.{slice_cmp}
-use Rattle.std.specs.Ordering.{nat_cmp, match_ordering}
-use Rattle.std.proofs.lemmas.Bool.{eqb-true}
+use Rattle.std.specs.Ordering.{match_ordering}
+use Rattle.std.proofs.lemmas.Bool.{eqb-true, or_right}
 use Rattle.std.proofs.lemmas.Bool.Decides.{nat_tests}
 use Rattle.serde_json.specs.Data.{Data}
 use Rattle.row_cells.specs.declared.schemas.FieldType.{FieldType}
@@ -17,15 +16,14 @@ use Rattle.row_cells.specs.Joining.{IsIn}
 use Rattle.row_cells.specs.Mapped.{AreDimensionsAt, IsDimensionAt, PlacesAscendFrom}
 use Rattle.ts_mapping.specs.Checks.{field_paths}
 use Rattle.ts_mapping.specs.Faults.{bad_entries, below_fault, fails, has_role, is_below_any, is_time, is_typed, may_be_time, repeated}
-use Rattle.ts_mapping.specs.Fields.{dimension_paths, field_by, field_of, field_with, is_dimension, is_dimension_role, is_listed, kind_of, metric_of, paths_of, put_field, put_if, role_at, role_by, role_of, routing_from, time_role, with_fields}
+use Rattle.ts_mapping.specs.Fields.{dimension_paths, field_by, field_of, field_with, is_dimension, is_dimension_role, metric_of, paths_of, put_field, put_if, role_at, role_by, role_of, routing_from, time_role, with_fields}
 use Rattle.ts_mapping.specs.Least.{all_faults, fault_unless, under}
-use Rattle.ts_mapping.specs.Paths.{is_among, is_below, is_field_path, timestamp}
-use Rattle.ts_mapping.specs.PathLaws.{any_in, exact, itself, or_second}
-use Rattle.ts_mapping.specs.Properties.{Placed, Property, inside, is_level, leaves_in, listed_members, property_at, single}
-use Rattle.ts_mapping.specs.Roles.{may_have}
+use Rattle.ts_mapping.specs.Paths.{is_among, is_below, timestamp}
+use Rattle.ts_mapping.specs.PathLaws.{any_in, exact, itself}
+use Rattle.ts_mapping.specs.Properties.{Placed, leaves_in, listed_members, property_at}
 use Rattle.ts_mapping.specs.Schemas.{AreApart, AreTemplateFields, IsTemplateField, time_field}
-use Rattle.ts_mapping.specs.Shapes.{property_faults, value_faults}
-use Rattle.ts_mapping.proofs.Shown.{HasShownRole, IsShown, IsShownTime, field_data, field_shown, leaf_of, placed_at, shown_fields}
+use Rattle.ts_mapping.specs.Shapes.{property_faults}
+use Rattle.ts_mapping.proofs.Shown.{IsShown, field_data, field_shown, leaf_of, placed_at, shown_fields}
 use Rattle.ts_mapping.proofs.Tested.{in_paths, of_paths}
 
 pub shown_of : (f : Field) → IsTemplateField f → IsShown f.kind f.role (field_data f)
@@ -98,7 +96,7 @@ none_without_role (f ∷ fs) are =
     ap₂ (λ b xs. fault_unless b f.path ++ xs) (ap (λ o. is_some (option_and_then (λ kind. role_of kind (leaf_of f)) o)) (shown_of f are.0).typed ∙ ap is_some (role_is f are.0)) (none_without_role fs are.1)
 
 time_may : (path : List ℕ) (kind : FieldType) (role : Role) (d : Data) → IsTemplateField (record { path = path; kind = kind; role = role }) → IsShown kind role d → may_be_time (record { path = path; value = d }) ≡ true
-time_may path kind Time d is shown = or_second (not (bytes_eq path timestamp)) (is_time d) shown.timely
+time_may path kind Time d is shown = or_right (not (bytes_eq path timestamp)) (is_time d) shown.timely
 time_may path kind Dimension d is shown = ap (λ b. not b || is_time d) (elsewhere (record { path = path; kind = kind; role = Dimension }) is (λ e. cc))
 time_may path kind Gauge d is shown = ap (λ b. not b || is_time d) (elsewhere (record { path = path; kind = kind; role = Gauge }) is (λ e. cc))
 time_may path kind Counter d is shown = ap (λ b. not b || is_time d) (elsewhere (record { path = path; kind = kind; role = Counter }) is (λ e. cc))
@@ -168,7 +166,7 @@ pub none_below : (fs : List Field) (qs : List (List ℕ)) → AreApart fs → Is
 none_below fs [] apart timed within = refl
 none_below fs (q ∷ qs) apart timed within =
     ap₂ (λ b xs. fault_unless (not b) q ++ xs) (go (is_below_any q (timestamp ∷ field_paths fs)) refl)
-    (none_below fs qs apart timed (λ r is. within r (or_second (bytes_eq r q) (is_among r qs) is)))
+    (none_below fs qs apart timed (λ r is. within r (or_right (bytes_eq r q) (is_among r qs) is)))
   where
     own : is_among q (field_paths fs) ≡ true
     own = within q (ap (λ b. b || is_among q qs) (itself q))
@@ -302,7 +300,7 @@ dimension_more : (q : List ℕ) (f : Field) (fs : List Field) → is_among q (di
 dimension_more q f fs is = go (is_dimension_role f.role)
   where
     go : (v : Bool) → is_among q (cond v (f.path ∷ []) [] ++ dimension_paths fs) ≡ true
-    go true = or_second (bytes_eq q f.path) (is_among q (dimension_paths fs)) is
+    go true = or_right (bytes_eq q f.path) (is_among q (dimension_paths fs)) is
     go false = is
 
 dimension_here : (f : Field) (fs : List Field) → f.role ≡ Dimension → is_among f.path (dimension_paths (f ∷ fs)) ≡ true

@@ -6,6 +6,7 @@ use Rattle.row_cells.specs.declared.schemas.FieldType.{FieldType}
 use Rattle.row_cells.specs.declared.schemas.Role.{Role}
 use Rattle.row_cells.specs.declared.schemas.Role.TheVariants.{Time, Dimension, Gauge, Counter, Label}
 use Rattle.row_cells.specs.declared.schemas.Field.{Field}
+use Rattle.std.proofs.lemmas.Bool.{or_right}
 use Rattle.ts_mapping.specs.Faults.{fails, has_role}
 use Rattle.ts_mapping.specs.Fields.{field_by, field_of, field_with, is_dimension, kind_of, metric_named, metric_of, paths_of, plain_role, role_at, role_by, role_if_had, role_of, time_role}
 use Rattle.ts_mapping.specs.Least.{all_faults, fault_unless}
@@ -17,7 +18,7 @@ use Rattle.ts_mapping.specs.Shapes.{property_faults, value_faults}
 use Rattle.ts_mapping.specs.Trees.{is_text}
 use Rattle.ts_mapping.proofs.Nothing.{first_nothing, holds, second_nothing}
 use Rattle.ts_mapping.proofs.Placing.{AllBy, AreAllFields}
-use Rattle.ts_mapping.specs.PathLaws.{exact, itself, or_second}
+use Rattle.ts_mapping.specs.PathLaws.{exact, itself}
 
 -- ---- properties whose paths fields may have
 
@@ -86,7 +87,7 @@ plain path kind true role elsewhere is = other_if path kind Dimension role elsew
 plain path kind false role elsewhere is = go (is_aggregate kind) refl is
   where
     gauge_had : is_aggregate kind ≡ true → may_have kind Gauge ≡ true
-    gauge_had e = or_second (is_whole kind) (is_aggregate kind) e
+    gauge_had e = or_right (is_whole kind) (is_aggregate kind) e
 
     go : (v : Bool) → is_aggregate kind ≡ v → Some (if v then Gauge else Label) ≡ Some role → HasRole path kind role
     go true e is = other path kind Gauge role elsewhere gauge_untimed (cc) (gauge_had e)
@@ -154,7 +155,7 @@ pub all_sent : (all : List (List ℕ)) (ps : List Property) → AreSound ps → 
 all_sent all [] are within = tt
 all_sent all (p ∷ ps) are within = (
   (λ f is. within f.path (here p f ps (field_is p f are.0 is).path)),
-  all_sent all ps are.1 (λ q is. within q (or_second (bytes_eq q p.path) (is_among q (paths_of ps)) is)),
+  all_sent all ps are.1 (λ q is. within q (or_right (bytes_eq q p.path) (is_among q (paths_of ps)) is)),
 )
   where
     here : (p : Property) (f : Field) (ps : List Property) → p.path ≡ f.path → is_among f.path (paths_of (p ∷ ps)) ≡ true

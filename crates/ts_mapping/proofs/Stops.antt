@@ -10,13 +10,14 @@ use Rattle.serde_json.specs.Data.{Data, null, boolean, number, string, array, ob
 use Rattle.serde_json.specs.Find.{get}
 use Rattle.json_walk.specs.Path.{below}
 use Rattle.row_cells.specs.Limits.{longest_path}
-use Rattle.ts_mapping.specs.Least.{all_faults, fault_unless, least_with, lesser, under}
-use Rattle.ts_mapping.specs.LeastLaws.{IsAtMost, at_most_chain, at_most_itself, less_at_most, less_greater, not_behind}
+use Rattle.json_walk.specs.Shapes.{is_object}
+use Rattle.ts_mapping.specs.Least.{all_faults, fault_unless, least_with, lesser, under, IsAtMost}
+use Rattle.ts_mapping.specs.LeastLaws.{at_most_chain, at_most_itself, less_at_most, less_greater, not_behind}
 use Rattle.ts_mapping.specs.PathLaws.{short_path}
 use Rattle.ts_mapping.specs.Paths.{is_among, is_field_path}
 use Rattle.ts_mapping.specs.Properties.{Placed, inside, listed, listed_members, property_at}
 use Rattle.ts_mapping.specs.Shapes.{aggregate_faults, field_names, level_faults, level_names, member_faults, property_faults, value_faults}
-use Rattle.ts_mapping.specs.Trees.{is_object, unknown_in, unknown_members}
+use Rattle.ts_mapping.specs.Trees.{unknown_in, unknown_members}
 use Rattle.ts_mapping.proofs.Steps.{faults_append}
 
 -- paths that begin with a place

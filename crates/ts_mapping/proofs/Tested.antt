@@ -5,10 +5,9 @@ use Rattle.std.specs.Cmp.Lexicographic.{slice_cmp}
 use Rattle.std.specs.List.{list_all, list_any}
 use Rattle.std.specs.Ordering.{is_lt, nat_cmp}
 use Rattle.std.proofs.lemmas.Int.{ints}
-use Rattle.std.proofs.lemmas.Bool.{le-leb, leb-true, lt-ltb, ltb-true}
+use Rattle.std.proofs.lemmas.Bool.{le-leb, leb-true, lt-ltb, ltb-true, or_right}
 use Rattle.index_names.specs.Patterns.{is_pattern}
-use Rattle.row_cells.specs.declared.schemas.FieldType.{FieldType}
-use Rattle.row_cells.specs.declared.schemas.FieldType.TheVariants.{Date, Keyword, Long, Integer, Short, Byte, Boolean, Aggregate}
+use Rattle.row_cells.specs.declared.schemas.FieldType.TheVariants.{Date}
 use Rattle.row_cells.specs.declared.schemas.Role.{Role}
 use Rattle.row_cells.specs.declared.schemas.Role.TheVariants.{Time, Dimension, Gauge, Counter, Label}
 use Rattle.row_cells.specs.declared.schemas.Field.{Field}
@@ -16,12 +15,14 @@ use Rattle.row_cells.specs.declared.schemas.Schema.{Schema}
 use Rattle.row_cells.specs.Fitting.{FieldsAscendAfter}
 use Rattle.row_cells.specs.Joining.{IsIn}
 use Rattle.row_cells.specs.Mapped.{AreDimensionsAt, ArePaths, IsDimensionAt, PlacesAscendFrom}
+use Rattle.time_text.specs.ShapeLaws.{first_true, second_true, both_true}
+use Rattle.ts_mapping.specs.RoleLaws.{date_is, dimension_is}
 use Rattle.ts_mapping.specs.Checks.{are_below_any, are_dimensions_at, are_fields, are_routing, are_same, are_shards, are_sound_fields, ascend_after, field_paths, has_time_field, is_dimension_at, is_in_range, is_look, is_schema, is_sound_field, is_time_field, is_time_role, places_ascend}
 use Rattle.ts_mapping.specs.Checks as spec
 use Rattle.ts_mapping.specs.Facts.{IsMapping, IsTemplate}
 use Rattle.ts_mapping.specs.Fields.{is_dimension_role}
 use Rattle.ts_mapping.specs.Limits.{greatest_priority, longest_look, most_fields, most_patterns, most_shards, shortest_look}
-use Rattle.ts_mapping.specs.PathLaws.{any_in, exact, first_true, in_any, itself, or_second, second_true}
+use Rattle.ts_mapping.specs.PathLaws.{any_in, exact, in_any, itself}
 use Rattle.ts_mapping.specs.Paths.{is_among, is_below, is_field_path, timestamp}
 use Rattle.ts_mapping.specs.Ranges.{IsInRange, IsLook}
 use Rattle.ts_mapping.specs.Roles.{is_date, may_have}
@@ -30,11 +31,6 @@ use Rattle.ts_mapping.specs.declared.templates.Mapping.{Mapping}
 use Rattle.ts_mapping.specs.declared.templates.Template.{Template}
 use Rattle.ts_mapping.proofs.SchemaLemmas.{path_is}
 use Rattle.ts_mapping.proofs.Sets.{SamePaths, any_same}
-
-both : (a b : Bool) → a ≡ true → b ≡ true → (a && b) ≡ true
-both true true p q = refl
-both true false p q = q
-both false b p q = p
 
 no : {A : Type 0} → true ≡ false → A
 no e = absurd (differ e)
@@ -61,7 +57,7 @@ to_ascend p (f ∷ fs) is = (
 
 of_ascend : (p : List ℕ) (fs : List Field) → FieldsAscendAfter p fs → ascend_after p fs ≡ true
 of_ascend p [] all = refl
-of_ascend p (f ∷ fs) all = both (is_lt (slice_cmp nat_cmp p f.path)) (ascend_after f.path fs) (is_less (slice_cmp nat_cmp p f.path) all.0) (of_ascend f.path fs all.1)
+of_ascend p (f ∷ fs) all = both_true (is_lt (slice_cmp nat_cmp p f.path)) (ascend_after f.path fs) (is_less (slice_cmp nat_cmp p f.path) all.0) (of_ascend f.path fs all.1)
 
 -- ---- single fields
 
@@ -71,23 +67,6 @@ time_is Dimension is = cc
 time_is Gauge is = cc
 time_is Counter is = cc
 time_is Label is = cc
-
-date_is : (k : FieldType) → is_date k ≡ true → k ≡ Date
-date_is Date is = refl
-date_is Keyword is = cc
-date_is Long is = cc
-date_is Integer is = cc
-date_is Short is = cc
-date_is Byte is = cc
-date_is Boolean is = cc
-date_is Aggregate is = cc
-
-dimension_is : (r : Role) → is_dimension_role r ≡ true → r ≡ Dimension
-dimension_is Time is = cc
-dimension_is Dimension is = refl
-dimension_is Gauge is = cc
-dimension_is Counter is = cc
-dimension_is Label is = cc
 
 same_is : (a b : Bool) → are_same a b ≡ true → a ≡ b
 same_is true b is = sym is
@@ -114,8 +93,8 @@ to_field f is =
 
 of_field : (f : Field) → IsTemplateField f → is_sound_field f ≡ true
 of_field f is =
-    both (is_field_path f.path) (may_have f.kind f.role && are_same (is_time_role f.role) (bytes_eq f.path timestamp)) is.path
-    (both (may_have f.kind f.role) (are_same (is_time_role f.role) (bytes_eq f.path timestamp)) is.role
+    both_true (is_field_path f.path) (may_have f.kind f.role && are_same (is_time_role f.role) (bytes_eq f.path timestamp)) is.path
+    (both_true (may_have f.kind f.role) (are_same (is_time_role f.role) (bytes_eq f.path timestamp)) is.role
     (same_by (is_time_role f.role) (bytes_eq f.path timestamp)
     (λ time. ap (λ p. bytes_eq p timestamp) (is.time.0 (time_is f.role time)) ∙ itself timestamp)
     (λ here. ap is_time_role (is.time.1 (exact f.path timestamp here)))))
@@ -126,7 +105,7 @@ to_fields (f ∷ fs) is = (to_field f (first_true (is_sound_field f) (are_sound_
 
 of_fields : (fs : List Field) → AreTemplateFields fs → are_sound_fields fs ≡ true
 of_fields [] all = refl
-of_fields (f ∷ fs) all = both (is_sound_field f) (are_sound_fields fs) (of_field f all.0) (of_fields fs all.1)
+of_fields (f ∷ fs) all = both_true (is_sound_field f) (are_sound_fields fs) (of_field f all.0) (of_fields fs all.1)
 
 to_paths : (fs : List Field) → AreTemplateFields fs → ArePaths fs
 to_paths [] all = tt
@@ -139,7 +118,7 @@ in_paths g [] is = absurd is
 in_paths g (f ∷ fs) is =
     elim is [
       | inl same ↦ ap (λ b. b || is_among g.path (field_paths fs)) (ap (λ h. bytes_eq g.path h.path) (sym same) ∙ itself g.path)
-      | inr later ↦ or_second (bytes_eq g.path f.path) (is_among g.path (field_paths fs)) (in_paths g fs later)
+      | inr later ↦ or_right (bytes_eq g.path f.path) (is_among g.path (field_paths fs)) (in_paths g fs later)
     ]
 
 pub record Has (q : List ℕ) (fs : List Field) : Type 0 where
@@ -160,7 +139,7 @@ any_field test f [] is passes = absurd is
 any_field test f (g ∷ gs) is passes =
     elim is [
       | inl same ↦ ap (λ b. b || list_any test gs) (ap test (sym same) ∙ passes)
-      | inr later ↦ or_second (test g) (list_any test gs) (any_field test f gs later passes)
+      | inr later ↦ or_right (test g) (list_any test gs) (any_field test f gs later passes)
     ]
 
 record Passed (test : Field → Bool) (fs : List Field) : Type 0 where
@@ -236,8 +215,8 @@ to_places least count (p ∷ ps) is =
 of_places : (least count : ℕ) (ps : List ℕ) → PlacesAscendFrom least count ps → places_ascend least count ps ≡ true
 of_places least count [] all = refl
 of_places least count (p ∷ ps) all =
-    both (nat_le least p) (nat_lt p count && places_ascend (suc p) count ps) (le-leb least p all.0)
-    (both (nat_lt p count) (places_ascend (suc p) count ps) (lt-ltb p count all.1) (of_places (suc p) count ps all.2))
+    both_true (nat_le least p) (nat_lt p count && places_ascend (suc p) count ps) (le-leb least p all.0)
+    (both_true (nat_lt p count) (places_ascend (suc p) count ps) (lt-ltb p count all.1) (of_places (suc p) count ps all.2))
 
 to_dimension : (fs : List Field) (p : ℕ) → is_dimension_at fs p ≡ true → IsDimensionAt fs p
 to_dimension [] p is = cc
@@ -255,7 +234,7 @@ to_dimensions fs (p ∷ ps) is = (to_dimension fs p (first_true (is_dimension_at
 
 of_dimensions : (fs : List Field) (ps : List ℕ) → AreDimensionsAt fs ps → are_dimensions_at fs ps ≡ true
 of_dimensions fs [] all = refl
-of_dimensions fs (p ∷ ps) all = both (is_dimension_at fs p) (are_dimensions_at fs ps) (of_dimension fs p all.0) (of_dimensions fs ps all.1)
+of_dimensions fs (p ∷ ps) all = both_true (is_dimension_at fs p) (are_dimensions_at fs ps) (of_dimension fs p all.0) (of_dimensions fs ps all.1)
 
 -- ---- schemas
 
@@ -293,13 +272,13 @@ of_schema : (schema : Schema) → IsTemplateSchema schema → is_schema schema �
 of_schema schema is =
     let fs = schema.fields in
     let ps = schema.routing in
-    both (are_fields fs) (are_routing fs ps)
-    (both (ascend_after [] fs) _ (of_ascend [] fs is.mapped.ascending)
-    (both (are_sound_fields fs) _ (of_fields fs is.fields)
-    (both (not (are_below_any (field_paths fs) fs)) _ (ap not (of_apart fs is.apart))
-    (both (has_time_field fs) _ (of_timed fs is.timed) (le-leb (length fs) most_fields is.few)))))
-    (both (are_dimensions_at fs ps) _ (of_dimensions fs ps is.mapped.routing)
-    (both (places_ascend 0 (length fs) ps) _ (of_places 0 (length fs) ps is.routing_ascends) (le-leb 1 (length ps) is.routed)))
+    both_true (are_fields fs) (are_routing fs ps)
+    (both_true (ascend_after [] fs) _ (of_ascend [] fs is.mapped.ascending)
+    (both_true (are_sound_fields fs) _ (of_fields fs is.fields)
+    (both_true (not (are_below_any (field_paths fs) fs)) _ (ap not (of_apart fs is.apart))
+    (both_true (has_time_field fs) _ (of_timed fs is.timed) (le-leb (length fs) most_fields is.few)))))
+    (both_true (are_dimensions_at fs ps) _ (of_dimensions fs ps is.mapped.routing)
+    (both_true (places_ascend 0 (length fs) ps) _ (of_places 0 (length fs) ps is.routing_ascends) (le-leb 1 (length ps) is.routed)))
 
 -- ---- ranges
 
@@ -307,7 +286,7 @@ to_shards : (n : ℕ) → are_shards n ≡ true → (1 ≤ n) × (n ≤ most_sha
 to_shards n is = (leb-true 1 n (first_true (nat_le 1 n) (nat_le n most_shards) is), leb-true n most_shards (second_true (nat_le 1 n) (nat_le n most_shards) is))
 
 of_shards : (n : ℕ) → (1 ≤ n) × (n ≤ most_shards) → are_shards n ≡ true
-of_shards n is = both (nat_le 1 n) (nat_le n most_shards) (le-leb 1 n is.0) (le-leb n most_shards is.1)
+of_shards n is = both_true (nat_le 1 n) (nat_le n most_shards) (le-leb 1 n is.0) (le-leb n most_shards is.1)
 
 to_look : (look : ℤ) → is_look look ≡ true → IsLook look
 to_look (pos n) is =
@@ -328,7 +307,7 @@ le_true a b le = go (int_le (pos a) (pos b)) refl
 of_look : (look : ℤ) → IsLook look → is_look look ≡ true
 of_look look is =
     ap is_look is.same
-    ∙ both (int_le (pos shortest_look) (pos is.ms)) (int_le (pos is.ms) (pos longest_look)) (le_true shortest_look is.ms is.least) (le_true is.ms longest_look is.most)
+    ∙ both_true (int_le (pos shortest_look) (pos is.ms)) (int_le (pos is.ms) (pos longest_look)) (le_true shortest_look is.ms is.least) (le_true is.ms longest_look is.most)
 
 to_range : (t : Template) → is_in_range t ≡ true → IsInRange t
 to_range t is =
@@ -356,12 +335,12 @@ to_range t is =
 
 of_range : (t : Template) → IsInRange t → is_in_range t ≡ true
 of_range t is =
-    both (list_all is_pattern t.patterns) _ is.patterns
-    (both (nat_le 1 (length t.patterns)) _ (le-leb 1 (length t.patterns) is.some)
-    (both (nat_le (length t.patterns) most_patterns) _ (le-leb (length t.patterns) most_patterns is.few)
-    (both (nat_le t.priority greatest_priority) _ (le-leb t.priority greatest_priority is.priority)
-    (both (are_shards t.shards) _ (of_shards t.shards is.shards)
-    (both (is_look t.look_back) _ (of_look t.look_back is.look_back) (of_look t.look_ahead is.look_ahead))))))
+    both_true (list_all is_pattern t.patterns) _ is.patterns
+    (both_true (nat_le 1 (length t.patterns)) _ (le-leb 1 (length t.patterns) is.some)
+    (both_true (nat_le (length t.patterns) most_patterns) _ (le-leb (length t.patterns) most_patterns is.few)
+    (both_true (nat_le t.priority greatest_priority) _ (le-leb t.priority greatest_priority is.priority)
+    (both_true (are_shards t.shards) _ (of_shards t.shards is.shards)
+    (both_true (is_look t.look_back) _ (of_look t.look_back is.look_back) (of_look t.look_ahead is.look_ahead))))))
 
 -- ---- the whole
 
@@ -371,7 +350,7 @@ mapping_tested m = (
     shards = to_shards m.shards (first_true (are_shards m.shards) (is_schema m.schema) is);
     schema = to_schema m.schema (second_true (are_shards m.shards) (is_schema m.schema) is);
   }),
-  (λ is. both (are_shards m.shards) (is_schema m.schema) (of_shards m.shards is.shards) (of_schema m.schema is.schema)),
+  (λ is. both_true (are_shards m.shards) (is_schema m.schema) (of_shards m.shards is.shards) (of_schema m.schema is.schema)),
 )
 
 pub template_tested : (t : Template) → (spec.is_template t ≡ true) ↔ IsTemplate t
@@ -386,8 +365,8 @@ template_tested t = (
         rising = first_true t.schema.rises (is_schema t.schema) more;
       }),
   (λ is.
-      both (is_in_range t) _ (of_range t is.ranges)
-      (both (not t.schema.folded) _ (ap not is.raw) (both t.schema.rises (is_schema t.schema) is.rising (of_schema t.schema is.schema)))),
+      both_true (is_in_range t) _ (of_range t is.ranges)
+      (both_true (not t.schema.folded) _ (ap not is.raw) (both_true t.schema.rises (is_schema t.schema) is.rising (of_schema t.schema is.schema)))),
 )
 
 -- ---- steps of the code

@@ -4,6 +4,7 @@ use Rattle.std.specs.List.{list_any}
 use Rattle.serde_json.specs.Data.{Data, null, boolean, number, string, array, object}
 use Rattle.row_cells.specs.declared.schemas.FieldType.{FieldType}
 use Rattle.row_cells.specs.declared.schemas.Field.{Field}
+use Rattle.json_walk.specs.Shapes.{texts_of}
 use Rattle.ts_mapping.specs.Fields.{dimension_paths, fields_of, has_time, is_dimension, kind_of, metric_named, metric_of, paths_of, role_of}
 use Rattle.ts_mapping.specs.Least.{all_faults, fault_unless, least}
 use Rattle.ts_mapping.specs.Limits.{most_fields}
@@ -12,7 +13,7 @@ use Rattle.ts_mapping.specs.Properties.{Property, leaves_in, mappings_of, proper
 use Rattle.ts_mapping.specs.Roles.{is_date}
 use Rattle.ts_mapping.specs.Settings.{settings_of, shards_of, value_of}
 use Rattle.ts_mapping.specs.Shapes.{shape_faults}
-use Rattle.ts_mapping.specs.Trees.{member_of, texts_of}
+use Rattle.ts_mapping.specs.Trees.{member_of}
 use Rattle.ts_mapping.specs.declared.settings.Key.TheVariants.{RoutingPath, Shards}
 use Rattle.ts_mapping.specs.declared.faults.Fault.{Fault}
 use Rattle.ts_mapping.specs.declared.kinds.MapKind.{MapKind}

@@ -1,7 +1,9 @@
 -- Paths at fault, and the least of them.
-use Rattle.std.specs.Prelude.{ℕ, Bool, true, false, List, [], ◌∷◌, ◌++◌, Option, Some, None}
+use Rattle.std.specs.Prelude.{◌≡◌, ℕ, Bool, true, false, List, [], ◌∷◌, ◌++◌, Option, Some, None}
 use Rattle.std.specs.Cmp.Lexicographic.{slice_cmp}
 use Rattle.std.specs.Ordering.{nat_cmp, match_ordering}
+use Rattle.std.specs.declared.cmp.Ordering.TheVariants.{Greater}
+use Rattle.ts_mapping.specs.Paths.{is_among}
 
 -- the path, where something that has to hold doesn't
 abbrev pub fault_unless : Bool → List ℕ → List (List ℕ)
@@ -26,6 +28,15 @@ least_with held (p ∷ ps) = least_with (lesser held p) ps
 -- the least of some paths in byte order, where there is any
 abbrev pub least : List (List ℕ) → Option (List ℕ)
 least ps = least_with None ps
+
+-- p doesn't stand behind q in byte order
+abbrev pub IsAtMost : List ℕ → List ℕ → Type 0
+IsAtMost p q = slice_cmp nat_cmp p q ≡ Greater → ⊥
+
+-- p is the least of the paths: one of them, and behind none of them
+pub record IsLeast (ps : List (List ℕ)) (p : List ℕ) : Type 0 where
+  pub among : is_among p ps ≡ true
+  pub at_most : (q : List ℕ) → is_among q ps ≡ true → IsAtMost p q
 
 -- a place in a body, and the member of that name there
 abbrev pub under : List ℕ → List ℕ → List ℕ

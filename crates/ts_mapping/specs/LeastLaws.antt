@@ -7,17 +7,9 @@ use Rattle.std.specs.declared.cmp.Ordering.{Ordering}
 use Rattle.std.specs.declared.cmp.Ordering.TheVariants.{Less, Equal, Greater}
 use Rattle.std.proofs.Common.{refl, sym, ap, ◌∙◌, subst, inl, inr}
 use Rattle.std.proofs.lemmas.Slice.Eq.{bytes_eq-Decides}
-use Rattle.ts_mapping.specs.Least.{least, least_with}
+use Rattle.ts_mapping.specs.Laws.{LeastIsLeast}
+use Rattle.ts_mapping.specs.Least.{IsAtMost, least_with}
 use Rattle.ts_mapping.specs.Paths.{is_among}
-
--- p doesn't stand behind q in byte order
-abbrev pub IsAtMost : List ℕ → List ℕ → Type 0
-IsAtMost p q = slice_cmp nat_cmp p q ≡ Greater → ⊥
-
--- p is the least of the paths: one of them, and behind none of them
-pub record IsLeast (ps : List (List ℕ)) (p : List ℕ) : Type 0 where
-  pub among : is_among p ps ≡ true
-  pub at_most : (q : List ℕ) → is_among q ps ≡ true → IsAtMost p q
 
 pub less_greater : Less ≡ Greater → ⊥
 less_greater e = cc
@@ -56,9 +48,6 @@ record Held (held : List ℕ) (ps : List (List ℕ)) (p : List ℕ) : Type 0 whe
   below_held : IsAtMost p held
   below_all : (q : List ℕ) → is_among q ps ≡ true → IsAtMost p q
 
-same_path : (p q : List ℕ) → bytes_eq p q ≡ true → p ≡ q
-same_path p q h = (bytes_eq-Decides p q).0 h
-
 itself_among : (p q : List ℕ) (ps : List (List ℕ)) → p ≡ q → is_among p (q ∷ ps) ≡ true
 itself_among p q ps same = ap (λ b. b || is_among p ps) ((bytes_eq-Decides p q).1 same)
 
@@ -81,7 +70,7 @@ with_first held q ps p kept one below_held below_first rest = record {
 }
   where
     go : (r : List ℕ) (v : Bool) → bytes_eq r q ≡ v → (v || is_among r ps) ≡ true → IsAtMost p r
-    go r true same is = subst (IsAtMost p) (sym (same_path r q same)) (at_most_chain p kept q rest.below_held below_first)
+    go r true same is = subst (IsAtMost p) (sym ((bytes_eq-Decides r q).0 same)) (at_most_chain p kept q rest.below_held below_first)
     go r false same is = rest.below_all r is
 
 held_is : (held : List ℕ) (ps : List (List ℕ)) (p : List ℕ) → least_with (Some held) ps ≡ Some p → Held held ps p
@@ -101,7 +90,7 @@ held_is held (q ∷ ps) p is = go (slice_cmp nat_cmp q held) refl is (held_is q 
     go Greater e is first other = with_first held q ps p held (inl refl) (at_most_itself held) (not_behind held q (λ less. less_greater (sym less ∙ e))) (other is)
 
 -- the least is one of the paths, and behind none of them
-pub least_is_least : (ps : List (List ℕ)) (p : List ℕ) → least ps ≡ Some p → IsLeast ps p
+pub least_is_least : LeastIsLeast
 least_is_least [] p is = cc
 least_is_least (q ∷ ps) p is =
     let rest = held_is q ps p is in
@@ -111,8 +100,5 @@ least_is_least (q ∷ ps) p is =
     }
   where
     go : (r : List ℕ) (v : Bool) → bytes_eq r q ≡ v → (v || is_among r ps) ≡ true → IsAtMost p r
-    go r true same is_r = subst (IsAtMost p) (sym (same_path r q same)) (held_is q ps p is).below_held
+    go r true same is_r = subst (IsAtMost p) (sym ((bytes_eq-Decides r q).0 same)) (held_is q ps p is).below_held
     go r false same is_r = (held_is q ps p is).below_all r is_r
-
-abbrev pub LeastIsLeast : Type 0
-LeastIsLeast = (ps : List (List ℕ)) (p : List ℕ) → least ps ≡ Some p → IsLeast ps p

@@ -16,6 +16,7 @@ pub mod Properties
 pub mod Ranges
 pub mod ReadingLaws
 pub mod Readings
+pub mod RoleLaws
 pub mod Roles
 pub mod Schemas
 pub mod Seen

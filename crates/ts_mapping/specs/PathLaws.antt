@@ -3,21 +3,11 @@ use Rattle.std.proofs.Common.{◌≡◌, ◌<◌, ◌≤◌, ℕ, zero, suc, Lis
 use Rattle.std.specs.List.{list_any}
 use Rattle.std.specs.Str.{IsUtf8, is_utf8}
 use Rattle.std.proofs.lemmas.Slice.Eq.{bytes_eq-Decides}
-use Rattle.std.proofs.lemmas.Bool.{eq-eqb, eqb-true, leb-true}
+use Rattle.std.proofs.lemmas.Bool.{both_ways, eq-eqb, eqb-true, leb-true, or_right}
 use Rattle.std.proofs.lemmas.Str.{IsUtf8-from_is_utf8, is_utf8-from_IsUtf8}
 use Rattle.row_cells.specs.Limits.{longest_path}
+use Rattle.time_text.specs.ShapeLaws.{both_true, first_true, second_true}
 use Rattle.ts_mapping.specs.Paths.{first_part, has_parts, has_path_form, is_among, is_below, is_field_path, reserved}
-
-and_true : (a b : Bool) → a ≡ true → b ≡ true → (a && b) ≡ true
-and_true a b p q = rw (p, q) refl
-
-pub first_true : (a b : Bool) → (a && b) ≡ true → a ≡ true
-first_true true b h = refl
-first_true false b h = h
-
-pub second_true : (a b : Bool) → (a && b) ≡ true → b ≡ true
-second_true true b h = h
-second_true false b h = cc
 
 first_false : (a b : Bool) → (a || b) ≡ false → a ≡ false
 first_false true b h = h
@@ -27,14 +17,11 @@ second_false : (a b : Bool) → (a || b) ≡ false → b ≡ false
 second_false true b h = cc
 second_false false b h = h
 
-pub not_both : (b : Bool) → b ≡ true → b ≡ false → ⊥
-not_both b t f = cc
-
 -- p lies below what stands before a dot in it
 below_front : (p : List ℕ) (i : ℕ) → i < length p → get_or p i 0 ≡ 46 → is_below p (take i p) ≡ true
 below_front [] i lt dot = absurd (omega (arith, lt))
 below_front (b ∷ p) zero lt dot = eq-eqb b 46 dot
-below_front (b ∷ p) (suc i) lt dot = and_true (b == b) (is_below p (take i p)) (eq-eqb b b refl) (below_front p i (omega (arith, lt)) dot)
+below_front (b ∷ p) (suc i) lt dot = both_true (b == b) (is_below p (take i p)) (eq-eqb b b refl) (below_front p i (omega (arith, lt)) dot)
 
 -- what p lies below stands in it before a dot
 record IsFront (p q : List ℕ) : Type 0 where
@@ -50,10 +37,6 @@ front_of_below (b ∷ p) (c ∷ q) h =
     let same : b ≡ c = eqb-true b c (first_true (b == c) (is_below p q) h) in
     record { short = omega (arith, later.short); dot = later.dot; front = rw (same, later.front) refl }
 
-pub or_second : (a b : Bool) → b ≡ true → (a || b) ≡ true
-or_second true b h = refl
-or_second false b h = h
-
 pub itself : (p : List ℕ) → bytes_eq p p ≡ true
 itself p = (bytes_eq-Decides p p).1 refl
 
@@ -67,7 +50,7 @@ in_any f q (p ∷ ps) is pass = go (bytes_eq q p) refl is (in_any f q ps)
   where
     go : (v : Bool) → bytes_eq q p ≡ v → (v || is_among q ps) ≡ true → (is_among q ps ≡ true → f q ≡ true → list_any f ps ≡ true) → (f p || list_any f ps) ≡ true
     go true same h later = let one : f p ≡ true = subst (λ r. f r ≡ true) (exact q p same) pass in rw one refl
-    go false same h later = or_second (f p) (list_any f ps) (later h pass)
+    go false same h later = or_right (f p) (list_any f ps) (later h pass)
 
 pub record Passes (f : List ℕ → Bool) (ps : List (List ℕ)) : Type 0 where
   pub path : List ℕ
@@ -82,7 +65,7 @@ any_in f (p ∷ ps) h = go (f p) refl h (any_in f ps)
     go true is h later = record { path = p; among = rw (itself p) refl; pass = is }
     go false is h later =
         let one = later h in
-        record { path = one.path; among = or_second (bytes_eq one.path p) (is_among one.path ps) one.among; pass = one.pass }
+        record { path = one.path; among = or_right (bytes_eq one.path p) (is_among one.path ps) one.among; pass = one.pass }
 
 -- a front before a dot that is among some paths lies above
 pub some_below : (p : List ℕ) (i : ℕ) (ps : List (List ℕ)) → i < length p → get_or p i 0 ≡ 46 → is_among (take i p) ps ≡ true → list_any (is_below p) ps ≡ true
@@ -97,7 +80,7 @@ none_below p ps none = go (list_any (is_below p) ps) refl
     go true is =
         let one = any_in (is_below p) ps is in
         let front = front_of_below p one.path one.pass in
-        absurd (not_both (is_among one.path ps) one.among (subst (λ q. is_among q ps ≡ false) front.front (none (length one.path) front.short front.dot)))
+        absurd (both_ways (is_among one.path ps) (subst (λ q. is_among q ps ≡ false) front.front (none (length one.path) front.short front.dot)) one.among)
 
 -- what is known of a field's path
 pub record IsTextPath (p : List ℕ) : Type 0 where

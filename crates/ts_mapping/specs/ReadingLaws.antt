@@ -1,5 +1,5 @@
 -- What a leaf is read as is a value of its field's type.
-use Rattle.std.proofs.Common.{◌≡◌, ◌≤◌, ◌≤ℤ◌, ◌+◌, ◌^◌, ◌<◌, ℕ, zero, suc, ℤ, pos, negsuc, List, length, int_le, Bool, true, false, cond, ◌&&◌, nat_le, Option, Some, None, option_map, option_and_then, refl, sym, ap, ap₂, subst, ◌∙◌, arith, FitsSigned}
+use Rattle.std.proofs.Common.{◌≡◌, ◌≤◌, ◌≤ℤ◌, ◌^◌, ◌<◌, ℕ, ℤ, pos, negsuc, List, length, int_le, Bool, true, false, cond, ◌&&◌, nat_le, Option, Some, None, option_map, option_and_then, refl, sym, ap, ap₂, subst, ◌∙◌, arith, FitsSigned}
 use Rattle.std.specs.Prelude.{codes}
 use lib.Utf8.{encode}
 use Rattle.std.specs.Fmt.{decimal, signed_decimal}
@@ -17,23 +17,14 @@ use Rattle.row_cells.specs.declared.scalars.Scalar.{Scalar}
 use Rattle.row_cells.specs.declared.scalars.Scalar.TheVariants.{Whole, Flag, Word}
 use Rattle.row_cells.specs.declared.schemas.FieldType.{FieldType}
 use Rattle.row_cells.specs.declared.schemas.FieldType.TheVariants.{Date, Keyword, Long, Integer, Short, Byte, Boolean, Aggregate}
-use Rattle.row_cells.specs.Fitting.{IsAggregate, IsNumberOf, IsValueOf}
+use Rattle.row_cells.specs.Fitting.{IsAggregate, IsValueOf}
 use Rattle.row_cells.specs.Limits.{longest_word}
 use Rattle.edge_face.specs.Limits.{last_instant}
 use Rattle.time_text.specs.Instant.{IsInstant, in_range, instant_of, written_of}
 use Rattle.time_text.specs.Shape.{◌>>=◌}
-use Rattle.ts_mapping.specs.PathLaws.{first_true, second_true}
-use Rattle.ts_mapping.specs.Readings.{aggregate_of, counted_parts, date_of, flag_of, flag_text, has_64_bits, in_type, is_number_of, keyword_of, number_of, number_word, parts_names, reading_of, text_word, whole_at, whole_of}
-
--- ---- statements
-
--- a leaf's reading at a field of a type is a value of the type
-abbrev pub ReadingsFit : Type 0
-ReadingsFit = (kind : FieldType) (leaf : Data) (v : Scalar) → reading_of kind leaf ≡ Some v → IsValueOf kind v
-
--- an aggregate's parts have 64 bits, and count a value or more
-abbrev pub PartsOfLeavesFit : Type 0
-PartsOfLeavesFit = (leaf : Data) (p : Parts) → aggregate_of leaf ≡ Some p → IsAggregate p
+use Rattle.time_text.specs.ShapeLaws.{first_true, second_true}
+use Rattle.ts_mapping.specs.Laws.{PartsOfLeavesFit, ReadingsFit}
+use Rattle.ts_mapping.specs.Readings.{counted_parts, date_of, flag_of, flag_text, has_64_bits, in_type, is_number_of, keyword_of, number_of, number_word, parts_names, text_word, whole_at, whole_of}
 
 -- ---- tests of whole numbers
 

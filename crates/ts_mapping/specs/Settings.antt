@@ -7,10 +7,11 @@ use Rattle.serde_json.specs.Find.{get, as_str, as_u64}
 use Rattle.json_walk.specs.Path.{below}
 use Rattle.time_text.specs.Interval.{interval_of}
 use Rattle.time_text.specs.Unit.{unit_ms}
+use Rattle.json_walk.specs.Shapes.{texts_of}
 use Rattle.ts_mapping.specs.Least.{fault_unless, all_faults, under}
 use Rattle.ts_mapping.specs.Limits.{longest_look, most_shards, shortest_look}
 use Rattle.ts_mapping.specs.Paths.{is_among}
-use Rattle.ts_mapping.specs.Trees.{is_text, texts_of, member_of}
+use Rattle.ts_mapping.specs.Trees.{is_text, member_of}
 use Rattle.ts_mapping.specs.declared.settings.Key.{Key}
 use Rattle.ts_mapping.specs.declared.settings.Key.TheVariants.{Mode, RoutingPath, Shards, LookBack, LookAhead, Replicas}
 

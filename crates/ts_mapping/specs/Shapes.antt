@@ -5,6 +5,7 @@ use Rattle.serde_json.specs.Data.{Data}
 use Rattle.serde_json.specs.Find.{get, as_u64, as_number}
 use Rattle.index_names.specs.Patterns.{is_pattern}
 use Rattle.row_cells.specs.declared.schemas.FieldType.{FieldType}
+use Rattle.json_walk.specs.Shapes.{is_object, texts_of}
 use Rattle.ts_mapping.specs.Fields.{kind_of}
 use Rattle.ts_mapping.specs.Least.{all_faults, fault_unless, under}
 use Rattle.ts_mapping.specs.Limits.{greatest_priority, most_patterns}
@@ -12,7 +13,7 @@ use Rattle.ts_mapping.specs.Paths.{is_among, is_field_path}
 use Rattle.ts_mapping.specs.Properties.{Placed, mappings_of, properties_of}
 use Rattle.ts_mapping.specs.Roles.{is_aggregate}
 use Rattle.ts_mapping.specs.Settings.{settings_faults, settings_of}
-use Rattle.ts_mapping.specs.Trees.{has_to_be, is_empty_list, is_flag, is_object, is_text, may_be, member_of, texts_of, unknown_in}
+use Rattle.ts_mapping.specs.Trees.{has_to_be, is_empty_list, is_flag, is_text, may_be, member_of, unknown_in}
 
 -- ---- the members of the body
 

@@ -1,18 +1,10 @@
 -- What single values of a body say.
-use Rattle.std.specs.Prelude.{ℕ, Bool, true, false, List, [], ◌∷◌, ◌++◌, bytes_eq, Option, Some, None, option_and_then}
-use Rattle.serde_json.specs.Data.{Data, null, boolean, number, string, array, object, Items, no_items, item, Members, no_members, member}
-use Rattle.serde_json.specs.Find.{get, as_str}
+use Rattle.std.specs.Prelude.{ℕ, Bool, true, false, List, [], ◌++◌, bytes_eq, Option, Some, None, option_and_then}
+use Rattle.serde_json.specs.Data.{Data, null, boolean, number, string, array, object, no_items, item, Members, no_members, member}
+use Rattle.serde_json.specs.Find.{get}
 use Rattle.json_walk.specs.Path.{below}
 use Rattle.ts_mapping.specs.Least.{fault_unless}
 use Rattle.ts_mapping.specs.Paths.{is_among}
-
-abbrev pub is_object : Data → Bool
-is_object null = false
-is_object (boolean b) = false
-is_object (number n) = false
-is_object (string s) = false
-is_object (array ds) = false
-is_object (object ms) = true
 
 abbrev pub is_flag : Data → Bool
 is_flag null = false
@@ -54,24 +46,6 @@ may_be test (Some d) = test d
 -- a member of a value that may be absent itself
 abbrev pub member_of : List ℕ → Option Data → Option Data
 member_of name d = option_and_then (get name) d
-
-abbrev pub with_text : Option (List ℕ) → Option (List (List ℕ)) → Option (List (List ℕ))
-with_text (Some t) (Some ts) = Some (t ∷ ts)
-with_text t ts = None
-
--- the elements, where all of them are texts
-abbrev pub texts_in : Items → Option (List (List ℕ))
-texts_in no_items = Some []
-texts_in (item d ds) = with_text (as_str d) (texts_in ds)
-
--- a text, or a list of texts
-abbrev pub texts_of : Data → Option (List (List ℕ))
-texts_of null = None
-texts_of (boolean b) = None
-texts_of (number n) = None
-texts_of (string s) = Some (s ∷ [])
-texts_of (array ds) = texts_in ds
-texts_of (object ms) = None
 
 -- the members that have none of these names, by their places
 abbrev pub unknown_members : List (List ℕ) → Option (List ℕ) → Members → List (List ℕ)

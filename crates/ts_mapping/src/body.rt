@@ -11,10 +11,11 @@ ghost use Rattle.ts_mapping.specs.Shapes as spec;
 use crate::least::Least;
 use crate::limits::{GREATEST_PRIORITY, MOST_PATTERNS};
 use crate::trees::{
-    check_names, has_to_be_object, is_object, may_be_empty_list, may_be_object, member, texts,
+    check_names, has_to_be_object, may_be_empty_list, may_be_object, member, texts,
 };
 use edge_face::{NoMemory, Text};
 use index_names::is_pattern;
+use json_walk::is_object;
 use serde_json::Value;
 use sqlite_items::Items;
 use std::alloc::Global;

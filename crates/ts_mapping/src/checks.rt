@@ -15,7 +15,7 @@ use crate::path_set::PathSet;
 use crate::paths::is_field_path;
 use crate::routing::is_dimension;
 use crate::templates::{Mapping, Template};
-use edge_face::NoMemory;
+use edge_face::{NoMemory, bytes_order};
 use row_cells::{Field, Role, Schema};
 use std::alloc::Global;
 
@@ -26,7 +26,7 @@ fn ascend(fields: &[Field]) -> bool
     let mut before: &[u8] = b"".as_slice();
     for field in fields {
         let path = field.path.as_bytes();
-        if !before.cmp(path).is_lt() {
+        if !bytes_order(before, path).is_lt() {
             return false;
         }
         before = path;

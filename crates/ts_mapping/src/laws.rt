@@ -1,7 +1,5 @@
 //! Laws that calls above may cite.
-ghost use Rattle.ts_mapping.specs.Laws.{BodiesAreTemplates, TemplatesHaveBodies};
-ghost use Rattle.ts_mapping.specs.LeastLaws.{LeastIsLeast};
-ghost use Rattle.ts_mapping.specs.ReadingLaws.{PartsOfLeavesFit, ReadingsFit};
+ghost use Rattle.ts_mapping.specs.Laws.{BodiesAreTemplates, LeastIsLeast, PartsOfLeavesFit, ReadingsFit, TemplatesHaveBodies};
 
 /// The path that a refusal names is one of those at fault in its kind, and stands behind none of them in byte order.
 pub fn least_is_least()

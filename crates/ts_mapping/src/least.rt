@@ -2,7 +2,7 @@
 ghost use Rattle.std.specs.Prelude.{◌≡◌, ℕ, ◌∷◌, ◌++◌, List, None, OnOk, IfOk, Option};
 ghost use Rattle.ts_mapping.specs.Least.{fault_unless, least_with, lesser, under};
 
-use edge_face::{NoMemory, Text};
+use edge_face::{NoMemory, Text, bytes_order};
 use std::alloc::Global;
 use std::cmp::Ordering;
 use std::marker::Model;
@@ -48,7 +48,7 @@ impl Least {
         ensures { OnOk result (self.new ≡ lesser self.old path.now) }
     {
         if let Some(held) = &self.held {
-            match path.cmp(held.as_str()) {
+            match bytes_order(path.as_bytes(), held.as_bytes()) {
                 Ordering::Less => {}
                 Ordering::Equal | Ordering::Greater => return Ok(()),
             }
@@ -62,7 +62,7 @@ impl Least {
         ensures { self.new ≡ lesser self.old path }
     {
         if let Some(held) = &self.held {
-            match path.as_str().cmp(held.as_str()) {
+            match path.cmp(held) {
                 Ordering::Less => {}
                 Ordering::Equal | Ordering::Greater => return,
             }

@@ -1,5 +1,6 @@
 //! The fields that route.
 ghost use Rattle.std.specs.Prelude.{◌≡◌, ◌∷◌, ◌≤◌, ◌&&◌, ℕ, List, [], Some, IfOk, OnOk, length, nat_le, not, option_map, option_and_then};
+ghost use Rattle.json_walk.specs.Shapes.{texts_of};
 ghost use Rattle.ts_mapping.specs.Faults as spec;
 ghost use Rattle.ts_mapping.specs.Fields as fields;
 ghost use Rattle.ts_mapping.specs.Least.{fault_unless, least, least_with};
@@ -7,7 +8,6 @@ ghost use Rattle.ts_mapping.specs.Limits.{most_fields};
 ghost use Rattle.ts_mapping.specs.Paths.{is_among};
 ghost use Rattle.ts_mapping.specs.Seen.{settings_seen};
 ghost use Rattle.ts_mapping.specs.Settings.{value_of as value_at};
-ghost use Rattle.ts_mapping.specs.Trees.{texts_of};
 ghost use Rattle.ts_mapping.specs.declared.settings.Key.TheVariants.{RoutingPath};
 
 use crate::least::Least;

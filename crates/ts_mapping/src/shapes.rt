@@ -14,10 +14,11 @@ use crate::levels::check_properties;
 use crate::paths::is_field_path;
 use crate::settings::{SettingAt, check_settings};
 use crate::trees::{
-    check_names, has_member, has_to_be_text, is_among, is_object, may_be_flag, may_be_object,
-    may_be_text, texts,
+    check_names, has_member, has_to_be_text, is_among, may_be_flag, may_be_object, may_be_text,
+    texts,
 };
 use edge_face::{NoMemory, Text};
+use json_walk::is_object;
 use row_cells::FieldType;
 use serde_json::Value;
 use std::alloc::Global;

@@ -4,28 +4,19 @@ ghost use Rattle.serde_json.specs.View.{items_view, members_view, view};
 ghost use Rattle.serde_json.specs.Data.{array};
 ghost use Rattle.serde_json.specs.Find.{get};
 ghost use Rattle.json_walk.specs.Path.{below};
+ghost use Rattle.json_walk.specs.Shapes.{is_object as is_tree_object, texts_of};
 ghost use Rattle.ts_mapping.specs.Least.{fault_unless, least_with};
 ghost use Rattle.ts_mapping.specs.Seen.{bytes_of, seen};
 ghost use Rattle.ts_mapping.specs.Trees as spec;
-ghost use Rattle.ts_mapping.specs.Trees.{has_to_be, may_be, member_of, texts_in, texts_of, unknown_in, unknown_members};
+ghost use Rattle.ts_mapping.specs.Trees.{has_to_be, may_be, member_of, unknown_in, unknown_members};
 ghost use Rattle.ts_mapping.specs.Paths.{is_among as is_in_list};
 
 use crate::least::{Least, under_place};
 use edge_face::{NoMemory, Text};
+use json_walk::is_object;
 use serde_json::{Map, Value};
 use sqlite_items::Items;
 use std::alloc::Global;
-
-pub fn is_object(value: &Value) -> bool
-    ensures { result ≡ spec.is_object (view value.now) }
-{
-    match value {
-        Value::Object(_) => true,
-        Value::Null | Value::Bool(_) | Value::Number(_) | Value::String(_) | Value::Array(_) => {
-            false
-        }
-    }
-}
 
 /// Whether a member that may be absent is a truth value.
 pub fn may_be_flag(value: Option<&Value>) -> bool
@@ -91,7 +82,7 @@ pub fn may_be_text(value: Option<&Value>, text: &str) -> bool
 
 /// Whether a member is there, and is an object.
 pub fn has_to_be_object(value: Option<&Value>) -> bool
-    ensures { result ≡ has_to_be spec.is_object (seen value.entry) }
+    ensures { result ≡ has_to_be is_tree_object (seen value.entry) }
 {
     match value {
         None => false,
@@ -101,7 +92,7 @@ pub fn has_to_be_object(value: Option<&Value>) -> bool
 
 /// Whether a member that may be absent is an object.
 pub fn may_be_object(value: Option<&Value>) -> bool
-    ensures { result ≡ may_be spec.is_object (seen value.entry) }
+    ensures { result ≡ may_be is_tree_object (seen value.entry) }
 {
     match value {
         None => true,
@@ -129,32 +120,13 @@ pub fn member<'a>(value: Option<&'a Value>, name: &str) -> Option<&'a Value>
     }
 }
 
-/// The elements of a list, where all of them are texts.
-fn texts_among(alloc: Global, items: &[Value]) -> Result<Option<Items<Text>>, NoMemory>
-    ensures { IfOk result (λ texts. texts ≡ texts_in (items_view items.now)) }
-{
-    let mut texts = Vec::new(alloc);
-    for item in items {
-        match item {
-            Value::String(text) => texts.push(Text::new(alloc, text.as_str())?)?,
-            _ => return Ok(None),
-        }
-    }
-    Ok(Some(Items::from_vec(texts)))
-}
-
 /// The texts of a value that is a text or a list of texts.
 pub fn texts(alloc: Global, value: &Value) -> Result<Option<Items<Text>>, NoMemory>
     ensures { IfOk result (λ texts. texts ≡ texts_of (view value.now)) }
 {
-    match value {
-        Value::String(text) => {
-            let mut texts = Vec::new(alloc);
-            texts.push(Text::new(alloc, text.as_str())?)?;
-            Ok(Some(Items::from_vec(texts)))
-        }
-        Value::Array(items) => texts_among(alloc, items.as_slice()),
-        Value::Null | Value::Bool(_) | Value::Number(_) | Value::Object(_) => Ok(None),
+    match json_walk::texts(alloc, value)? {
+        None => Ok(None),
+        Some(texts) => Ok(Some(Items::from_vec(texts))),
     }
 }
 

@@ -1,6 +1,7 @@
 use Rattle.std.proofs.Common.{arith, rules, ◌<◌, length}
 use Rattle.std.proofs.lemmas.Str.Parse.{digits_value_short, digits_value-take-le}
-use Rattle.ts_mapping.proofs.Digits.{own, digit_in, number_more, number_fits}
+use Rattle.time_text.specs.ShapeLaws.{own, digit_in, number_more}
+use Rattle.ts_mapping.proofs.Digits.{number_fits}
 use Rattle.ts_mapping.proofs.numbers.digits_value.Goals as goal
 
 pub overflow_mul-number : goal.overflow_mul-number
