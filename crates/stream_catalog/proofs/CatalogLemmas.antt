@@ -12,16 +12,17 @@ use Rattle.time_text.specs.declared.intervals.Interval.{Interval}
 use Rattle.row_cells.specs.RowLists.{AreDistinct}
 use Rattle.downsample_fold.specs.Intervals.{interval_fault}
 use Rattle.downsample_fold.specs.Laws.{series_of}
-use Rattle.stream_catalog.specs.declared.answers.CatalogError.{CatalogError}
-use Rattle.stream_catalog.specs.declared.answers.CatalogError.TheVariants.{NoSuchName, NameTaken, Reserved, NotBlocked, Interval as BadInterval, Limit}
+use Rattle.stream_catalog.specs.declared.answers.Refusal.{Refusal}
+use Rattle.stream_catalog.specs.declared.answers.Refusal.TheVariants.{NoSuchName, NameTaken, Reserved, NotBlocked, Interval as BadInterval, Limit}
 use Rattle.stream_catalog.specs.declared.answers.What.TheVariants.{Indices}
 use Rattle.index_names.specs.Backing.{is_reserved}
-use Rattle.stream_catalog.specs.Names.{is_taken, most_indices}
+use Rattle.stream_catalog.specs.Limits.{most_indices}
+use Rattle.stream_catalog.specs.Names.{is_taken}
 use Rattle.stream_catalog.specs.declared.facts.HeldIndex.{HeldIndex}
 use Rattle.stream_catalog.specs.declared.facts.TaskFacts.{TaskFacts}
 use Rattle.stream_catalog.specs.Plain.{PlainIndex, PlainCatalog, PlainFacts, facts_of}
 use Rattle.stream_catalog.specs.Ways.{shown_by, plain_way, seen_way, see_index, see_catalog, kept_rows}
-use Rattle.stream_catalog.specs.Lists.{with_found, on_found, first_of, when, inserted, without, index_name, facts_named, index_named}
+use Rattle.stream_catalog.specs.Lists.{with_found, on_found, first_refusal, when, inserted, without, index_name, facts_named, index_named}
 use Rattle.stream_catalog.specs.Indices.{downsample_refusal, folded_index, write_fault}
 use Rattle.row_cells.specs.RowLists.{has_place}
 use Rattle.stream_catalog.specs.Units.{with_renamed, swapped, next_done, advanced, advanced_at, unit_from, unit_of}
@@ -150,12 +151,12 @@ pub record Folds (f : PlainFacts) (target : List ℕ) (by : Interval) (i : HeldI
 
 pub may_downsample : (f : PlainFacts) (source target : List ℕ) (by : Interval) (i : HeldIndex) → facts_named source f.indices ≡ Some i → downsample_refusal f source target by ≡ None → Folds f target by i
 may_downsample f source target by i found none =
-    let limit : List (Option CatalogError) = when (nat_le most_indices (length f.indices)) (Limit Indices) ∷ [] in
-    let interval : List (Option CatalogError) = option_map BadInterval (interval_fault i.interval by) ∷ limit in
-    let blocked : List (Option CatalogError) = when (not i.blocked) NotBlocked ∷ interval in
-    let write : List (Option CatalogError) = write_fault f source ∷ blocked in
-    let reserved : List (Option CatalogError) = when (is_reserved target) Reserved ∷ write in
-    let here : first_of (when (is_taken target f) (NameTaken target) ∷ reserved) ≡ None = sym (ap (λ o. on_found o (NoSuchName source) (λ (j : HeldIndex). first_of (
+    let limit : List (Option Refusal) = when (nat_le most_indices (length f.indices)) (Limit Indices) ∷ [] in
+    let interval : List (Option Refusal) = option_map BadInterval (interval_fault i.interval by) ∷ limit in
+    let blocked : List (Option Refusal) = when (not i.blocked) NotBlocked ∷ interval in
+    let write : List (Option Refusal) = write_fault f source ∷ blocked in
+    let reserved : List (Option Refusal) = when (is_reserved target) Reserved ∷ write in
+    let here : first_refusal (when (is_taken target f) (NameTaken target) ∷ reserved) ≡ None = sym (ap (λ o. on_found o (NoSuchName source) (λ (j : HeldIndex). first_refusal (
     when (is_taken target f) (NameTaken target) ∷ when (is_reserved target) Reserved ∷ write_fault f source ∷ when (not j.blocked) NotBlocked
     ∷ option_map BadInterval (interval_fault j.interval by) ∷ when (nat_le most_indices (length f.indices)) (Limit Indices) ∷ []))) found) ∙ none in
     let first = none_first (when (is_taken target f) (NameTaken target)) reserved here in

@@ -19,7 +19,7 @@ use Rattle.stream_catalog.specs.Names.{is_taken, template_for}
 use Rattle.stream_catalog.specs.Streams as spec
 use Rattle.stream_catalog.specs.Indices.{blocked_index, blocked_in, index_deleted, without_member, task_index}
 use Rattle.stream_catalog.specs.Moves.{moved_by, moved_all}
-use Rattle.stream_catalog.specs.Rounds.{Running, ends_at, extended, deleted, new_task, started, started_if_free, start_at, done_step, done_steps, steps_of, run_stream, run_streams, lifecycle_run}
+use Rattle.stream_catalog.specs.Runs.{Running, ends_at, extended, deleted, new_task, started, started_if_free, start_at, run_step, run_steps, stream_plan, run_stream, run_streams, lifecycle_run}
 use Rattle.stream_catalog.specs.Laws.{see_running}
 use Rattle.stream_catalog.proofs.NamedLemmas.{named-map, updated-map, inserted-map, without-map, filter-map_alike}
 
@@ -163,32 +163,32 @@ start_at-seen r n by =
     by_found None = refl
     by_found (Some i) = started_if_free-seen r i by
 
-done_step-seen : (members : List (List ℕ)) (r : Running) (step : Step) → see_running (done_step members r step) ≡ done_step members (see_running r) step
-done_step-seen members r (Extend place end) = by_place (slice_get members place)
+run_step-seen : (members : List (List ℕ)) (r : Running) (step : Step) → see_running (run_step members r step) ≡ run_step members (see_running r) step
+run_step-seen members r (Extend place end) = by_place (slice_get members place)
   where
     by_place : (o : Option (List ℕ)) → see_running (with_found o r (λ n. extended r n end)) ≡ with_found o (see_running r) (λ n. extended (see_running r) n end)
     by_place None = refl
     by_place (Some n) = extended-seen r n end
-done_step-seen members r (Delete place) = by_place (slice_get members place)
+run_step-seen members r (Delete place) = by_place (slice_get members place)
   where
     by_place : (o : Option (List ℕ)) → see_running (with_found o r (λ n. deleted r n)) ≡ with_found o (see_running r) (λ n. deleted (see_running r) n)
     by_place None = refl
     by_place (Some n) = deleted-seen r n
-done_step-seen members r (Start place by) = by_place (slice_get members place)
+run_step-seen members r (Start place by) = by_place (slice_get members place)
   where
     by_place : (o : Option (List ℕ)) → see_running (with_found o r (λ n. start_at r n by)) ≡ with_found o (see_running r) (λ n. start_at (see_running r) n by)
     by_place None = refl
     by_place (Some n) = start_at-seen r n by
 
-done_steps-seen : (members : List (List ℕ)) (r : Running) (steps : List Step) → see_running (done_steps members r steps) ≡ done_steps members (see_running r) steps
-done_steps-seen members r [] = refl
-done_steps-seen members r (step ∷ steps) =
-    done_steps-seen members (done_step members r step) steps ∙ ap (λ q. done_steps members q steps) (done_step-seen members r step)
+run_steps-seen : (members : List (List ℕ)) (r : Running) (steps : List Step) → see_running (run_steps members r steps) ≡ run_steps members (see_running r) steps
+run_steps-seen members r [] = refl
+run_steps-seen members r (step ∷ steps) =
+    run_steps-seen members (run_step members r step) steps ∙ ap (λ q. run_steps members q steps) (run_step-seen members r step)
 
 run_stream-seen : (now : ℤ) (r : Running) (s : PlainStream) → see_running (run_stream now r s) ≡ run_stream now (see_running r) s
 run_stream-seen now r s =
-    done_steps-seen s.facts.members r (steps_of (facts_of r.catalog) s now)
-    ∙ ap (λ f. done_steps s.facts.members (see_running r) (steps_of f s now)) (sym (facts_of-see r.catalog))
+    run_steps-seen s.facts.members r (stream_plan (facts_of r.catalog) s now)
+    ∙ ap (λ f. run_steps s.facts.members (see_running r) (stream_plan f s now)) (sym (facts_of-see r.catalog))
 
 run_streams-seen : (now : ℤ) (r : Running) (ss : List PlainStream) → see_running (run_streams now r ss) ≡ run_streams now (see_running r) ss
 run_streams-seen now r [] = refl

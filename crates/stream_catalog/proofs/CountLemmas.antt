@@ -15,7 +15,7 @@ use Rattle.row_cells.specs.EachLaws.{Each-weaker}
 use Rattle.row_cells.specs.Dimensions.{IsBefore}
 use Rattle.row_cells.specs.JoinLaws.{before_chain}
 use Rattle.downsample_fold.specs.Laws.{KeysAscend}
-use Rattle.stream_catalog.specs.Lists.{named, updated, inserted, without}
+use Rattle.stream_catalog.specs.Lists.{found_by, updated, inserted, without}
 use Rattle.stream_catalog.specs.Sound.{times}
 use Rattle.stream_catalog.proofs.NamedLemmas.{none_not_some}
 
@@ -110,19 +110,19 @@ module _ {A : Type 0} (name : A → List ℕ) where
 -- ---- lists by names
 
 -- a name that stands nowhere is found nowhere
-pub none_named : {A : Type 0} (name : A → List ℕ) (n : List ℕ) (xs : List A) → times n (map name xs) ≡ 0 → named name n xs ≡ None
+pub none_named : {A : Type 0} (name : A → List ℕ) (n : List ℕ) (xs : List A) → times n (map name xs) ≡ 0 → found_by name n xs ≡ None
 none_named name n [] none = refl
 none_named name n (x ∷ xs) none = by_test (bytes_eq (name x) n) none (none_named name n xs)
   where
-    by_test : (b : Bool) → (if b then suc (times n (map name xs)) else times n (map name xs)) ≡ 0 → (times n (map name xs) ≡ 0 → named name n xs ≡ None) → (if b then Some x else named name n xs) ≡ None
+    by_test : (b : Bool) → (if b then suc (times n (map name xs)) else times n (map name xs)) ≡ 0 → (times n (map name xs) ≡ 0 → found_by name n xs ≡ None) → (if b then Some x else found_by name n xs) ≡ None
     by_test true none later = absurd (omega (arith, none))
     by_test false none later = later none
 
-pub some_named : {A : Type 0} (name : A → List ℕ) (n : List ℕ) (xs : List A) (x : A) → named name n xs ≡ Some x → 1 ≤ times n (map name xs)
+pub some_named : {A : Type 0} (name : A → List ℕ) (n : List ℕ) (xs : List A) (x : A) → found_by name n xs ≡ Some x → 1 ≤ times n (map name xs)
 some_named name n [] x found = absurd (none_not_some found)
 some_named name n (y ∷ ys) x found = by_test (bytes_eq (name y) n) found (some_named name n ys x)
   where
-    by_test : (b : Bool) → (if b then Some y else named name n ys) ≡ Some x → (named name n ys ≡ Some x → 1 ≤ times n (map name ys)) → 1 ≤ (if b then suc (times n (map name ys)) else times n (map name ys))
+    by_test : (b : Bool) → (if b then Some y else found_by name n ys) ≡ Some x → (found_by name n ys ≡ Some x → 1 ≤ times n (map name ys)) → 1 ≤ (if b then suc (times n (map name ys)) else times n (map name ys))
     by_test true found later = omega arith
     by_test false found later = later found
 
@@ -182,21 +182,21 @@ module _ {A : Type 0} (name : A → List ℕ) where
       by_test false later = later
 
 -- one put among others is found by its name, where that is new
-pub named_new : {A : Type 0} (name : A → List ℕ) (x : A) (xs : List A) → times (name x) (map name xs) ≡ 0 → named name (name x) (inserted name x xs) ≡ Some x
+pub named_new : {A : Type 0} (name : A → List ℕ) (x : A) (xs : List A) → times (name x) (map name xs) ≡ 0 → found_by name (name x) (inserted name x xs) ≡ Some x
 named_new name x [] none = ap (λ b. if b then Some x else None) (bytes_eq-itself (name x))
 named_new name x (y ∷ ys) none =
     let other = other_head (name x) (name y) (map name ys) none in
     by_test (is_le (slice_cmp nat_cmp (name x) (name y))) other.0 (named_new name x ys other.1)
   where
-    by_test : (b : Bool) → bytes_eq (name y) (name x) ≡ false → named name (name x) (inserted name x ys) ≡ Some x → named name (name x) (if b then x ∷ y ∷ ys else y ∷ inserted name x ys) ≡ Some x
-    by_test true other later = ap (λ b. if b then Some x else named name (name x) (y ∷ ys)) (bytes_eq-itself (name x))
-    by_test false other later = ap (λ b. if b then Some y else named name (name x) (inserted name x ys)) other ∙ later
+    by_test : (b : Bool) → bytes_eq (name y) (name x) ≡ false → found_by name (name x) (inserted name x ys) ≡ Some x → found_by name (name x) (if b then x ∷ y ∷ ys else y ∷ inserted name x ys) ≡ Some x
+    by_test true other later = ap (λ b. if b then Some x else found_by name (name x) (y ∷ ys)) (bytes_eq-itself (name x))
+    by_test false other later = ap (λ b. if b then Some y else found_by name (name x) (inserted name x ys)) other ∙ later
 
 -- what is taken out was there
-pub length-without : {A : Type 0} (name : A → List ℕ) (n : List ℕ) (xs : List A) (x : A) → named name n xs ≡ Some x → suc (length (without name n xs)) ≤ length xs
+pub length-without : {A : Type 0} (name : A → List ℕ) (n : List ℕ) (xs : List A) (x : A) → found_by name n xs ≡ Some x → suc (length (without name n xs)) ≤ length xs
 length-without name n [] x found = absurd (none_not_some found)
 length-without name n (y ∷ ys) x found = by_test (bytes_eq (name y) n) found (length-without name n ys x) (length-filter name (λ z. not (bytes_eq (name z) n)) ys)
   where
-    by_test : (b : Bool) → (if b then Some y else named name n ys) ≡ Some x → (named name n ys ≡ Some x → suc (length (without name n ys)) ≤ length ys) → length (without name n ys) ≤ length ys → suc (length (cond (not b) (y ∷ without name n ys) (without name n ys))) ≤ suc (length ys)
+    by_test : (b : Bool) → (if b then Some y else found_by name n ys) ≡ Some x → (found_by name n ys ≡ Some x → suc (length (without name n ys)) ≤ length ys) → length (without name n ys) ≤ length ys → suc (length (cond (not b) (y ∷ without name n ys) (without name n ys))) ≤ suc (length ys)
     by_test true found later fewer = omega (arith, fewer)
     by_test false found later fewer = let less = later found in omega (arith, less)

@@ -21,7 +21,8 @@ use Rattle.stream_catalog.specs.declared.facts.HeldIndex.{HeldIndex}
 use Rattle.stream_catalog.specs.declared.facts.TaskFacts.{TaskFacts}
 use Rattle.stream_catalog.specs.Plain.{PlainIndex}
 use Rattle.stream_catalog.specs.Ways.{shown_by, plain_way, seen_way, see_index, task_schema, kept_rows}
-use Rattle.stream_catalog.specs.Lists.{when, first_of}
+use Rattle.stream_catalog.specs.Lists.{when, first_refusal}
+use Rattle.stream_catalog.specs.declared.answers.Refusal.{Refusal}
 use Rattle.stream_catalog.specs.Indices.{folded_facts, folded_index}
 use Rattle.stream_catalog.specs.Sound.{KeepsMark, IsTaskOf, IsIndexSound}
 use Rattle.downsample_fold.specs.SettleLaws.{folds_any_form, folds_keep_series}
@@ -108,10 +109,10 @@ kept_of_base task i sound may =
 -- ---- refusals
 
 -- where none refuses, the first test doesn't, nor do the others
-pub none_first : {A : Type 0} (o : Option A) (rest : List (Option A)) → first_of (o ∷ rest) ≡ None → (o ≡ None) × (first_of rest ≡ None)
-none_first (Some a) rest none = absurd (no none)
+pub none_first : (o : Option Refusal) (rest : List (Option Refusal)) → first_refusal (o ∷ rest) ≡ None → (o ≡ None) × (first_refusal rest ≡ None)
+none_first (Some refusal) rest none = absurd (no none)
   where
-    no : Some a ≡ None → ⊥
+    no : Some refusal ≡ None → ⊥
     no e = cc
 none_first None rest none = (refl, none)
 

@@ -6,7 +6,7 @@ use Rattle.std.proofs.lemmas.List.{length-map}
 use Rattle.row_cells.specs.Each.{Each}
 use Rattle.row_cells.specs.EachLaws.{Each-weaker, Each-both, Each-filter}
 use Rattle.downsample_fold.specs.Laws.{KeysAscend}
-use Rattle.stream_catalog.specs.declared.answers.CatalogError.TheVariants.{NoSuchName}
+use Rattle.stream_catalog.specs.declared.answers.Refusal.TheVariants.{NoSuchName}
 use Rattle.stream_catalog.specs.declared.facts.HeldIndex.{HeldIndex}
 use Rattle.stream_catalog.specs.declared.facts.TaskFacts.{TaskFacts}
 use Rattle.stream_catalog.specs.Plain.{PlainStream, PlainCatalog, PlainFacts, facts_of}

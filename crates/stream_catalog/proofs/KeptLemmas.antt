@@ -11,7 +11,7 @@ use Rattle.downsample_fold.specs.Laws.{KeysAscend}
 use Rattle.stream_catalog.specs.declared.facts.HeldIndex.{HeldIndex}
 use Rattle.stream_catalog.specs.declared.facts.TaskFacts.{TaskFacts}
 use Rattle.stream_catalog.specs.Plain.{PlainStream, PlainFacts}
-use Rattle.stream_catalog.specs.Lists.{named, stream_name, facts_name, facts_named}
+use Rattle.stream_catalog.specs.Lists.{found_by, stream_name, facts_name, facts_named}
 use Rattle.stream_catalog.specs.Streams.{last_of, is_write}
 use Rattle.stream_catalog.specs.Indices.{without_member, task_index}
 use Rattle.stream_catalog.specs.Lists.{with_found}
@@ -33,12 +33,12 @@ each_passes test (x ∷ xs) = by_test (test x) refl (each_passes test xs)
 
 module _ {A : Type 0} (name : A → List ℕ) (stays : List ℕ → Bool) where
   -- look-ups of what stays
-  pub named_kept : (n : List ℕ) (xs : List A) → stays n ≡ true → named name n (filter (λ x. stays (name x)) xs) ≡ named name n xs
+  pub named_kept : (n : List ℕ) (xs : List A) → stays n ≡ true → found_by name n (filter (λ x. stays (name x)) xs) ≡ found_by name n xs
   named_kept n [] kept = refl
   named_kept n (x ∷ xs) kept = by_tests (stays (name x)) (bytes_eq (name x) n) refl refl (named_kept n xs kept)
     where
-      by_tests : (a b : Bool) → stays (name x) ≡ a → bytes_eq (name x) n ≡ b → named name n (filter (λ y. stays (name y)) xs) ≡ named name n xs
-          → named name n (cond a (x ∷ filter (λ y. stays (name y)) xs) (filter (λ y. stays (name y)) xs)) ≡ (if b then Some x else named name n xs)
+      by_tests : (a b : Bool) → stays (name x) ≡ a → bytes_eq (name x) n ≡ b → found_by name n (filter (λ y. stays (name y)) xs) ≡ found_by name n xs
+          → found_by name n (cond a (x ∷ filter (λ y. stays (name y)) xs) (filter (λ y. stays (name y)) xs)) ≡ (if b then Some x else found_by name n xs)
       by_tests true true is same later = rw same refl
       by_tests true false is same later = rw same later
       by_tests false true is same later = absurd (both_ways (stays (name x)) is (ap stays ((bytes_eq-Decides (name x) n).0 same) ∙ kept))

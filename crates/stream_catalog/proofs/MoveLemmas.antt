@@ -10,14 +10,14 @@ use Rattle.std.proofs.lemmas.Slice.Eq.{bytes_eq-Decides}
 use Rattle.row_cells.specs.Each.{Each}
 use Rattle.row_cells.specs.EachLaws.{Each-weaker, Each-filter}
 use Rattle.downsample_fold.specs.Laws.{KeysAscend}
-use Rattle.stream_catalog.specs.declared.answers.CatalogError.{CatalogError}
-use Rattle.stream_catalog.specs.declared.answers.CatalogError.TheVariants.{NoSuchName, IsWriteIndex, NotMember, IsMember, OtherMapping, BadWindow}
+use Rattle.stream_catalog.specs.declared.answers.Refusal.{Refusal}
+use Rattle.stream_catalog.specs.declared.answers.Refusal.TheVariants.{NoSuchName, IsWriteIndex, NotMember, IsMember, OtherMapping, BadWindow}
 use Rattle.stream_catalog.specs.declared.answers.Move.{Move}
 use Rattle.stream_catalog.specs.declared.answers.Move.TheVariants.{Remove, Add}
 use Rattle.stream_catalog.specs.declared.facts.HeldIndex.{HeldIndex}
 use Rattle.stream_catalog.specs.declared.facts.TaskFacts.{TaskFacts}
 use Rattle.stream_catalog.specs.Plain.{PlainStream, PlainFacts, facts_of}
-use Rattle.stream_catalog.specs.Lists.{when, on_found, with_found, first_of, updated, stream_name, facts_name, stream_named, facts_named, index_named}
+use Rattle.stream_catalog.specs.Lists.{when, on_found, with_found, first_refusal, updated, stream_name, facts_name, stream_named, facts_named, index_named}
 use Rattle.stream_catalog.specs.Streams.{has_member, is_write}
 use Rattle.stream_catalog.specs.Indices.{without_member, task_index}
 use Rattle.stream_catalog.specs.Moves.{overlap, meets_member, ends_late, is_bad_window, remove_refusal, stream_of, add_refusal, move_refusal, insert_member, with_member, removed, added_member, moved, moves_refusal, moved_by}
@@ -83,11 +83,11 @@ removed-sound : (f : PlainFacts) (stream index : List ℕ) → remove_refusal f 
 removed-sound f stream index none sound = by_found (stream_named stream f.streams) refl none
   where
     by_found : (o : Option PlainStream) → stream_named stream f.streams ≡ o
-        → on_found o (NoSuchName stream) (λ s. first_of (when (not (has_member s index)) (NotMember stream index) ∷ when (is_write s index) (IsWriteIndex stream index) ∷ [])) ≡ None
+        → on_found o (NoSuchName stream) (λ s. first_refusal (when (not (has_member s index)) (NotMember stream index) ∷ when (is_write s index) (IsWriteIndex stream index) ∷ [])) ≡ None
         → AreFactsSound (removed f stream index)
     by_found None found none = absurd (none_not_some (sym none))
     by_found (Some s) found none =
-        let second : List (Option CatalogError) = when (is_write s index) (IsWriteIndex stream index) ∷ [] in
+        let second : List (Option Refusal) = when (is_write s index) (IsWriteIndex stream index) ∷ [] in
         let one = none_first (when (not (has_member s index)) (NotMember stream index)) second none in
         let two = none_first (when (is_write s index) (IsWriteIndex stream index)) [] one.1 in
         let other = none_when (is_write s index) (IsWriteIndex stream index) two.0 in
@@ -241,17 +241,17 @@ none_meet : (is : List HeldIndex) (i : HeldIndex) (ms : List (List ℕ)) → lis
 none_meet is i [] none = tt
 none_meet is i (m ∷ ms) none = let both = neither_test (meets_member is i m) (list_any (meets_member is i) ms) none in (both.0, none_meet is i ms both.1)
 
-abbrev add_tests : PlainFacts → List ℕ → List ℕ → PlainStream → HeldIndex → List (Option CatalogError)
+abbrev add_tests : PlainFacts → List ℕ → List ℕ → PlainStream → HeldIndex → List (Option Refusal)
 add_tests f stream index s i =
     option_map (λ other. IsMember other.facts.name index) (stream_of f index)
     ∷ when (not (bytes_eq i.template s.facts.template)) (OtherMapping stream index)
     ∷ when (is_bad_window f.indices i s) (BadWindow stream index) ∷ []
 
-with_member-sound : (f : PlainFacts) (stream index : List ℕ) (s : PlainStream) (i : HeldIndex) → stream_named stream f.streams ≡ Some s → facts_named index f.indices ≡ Some i → first_of (add_tests f stream index s i) ≡ None →
+with_member-sound : (f : PlainFacts) (stream index : List ℕ) (s : PlainStream) (i : HeldIndex) → stream_named stream f.streams ≡ Some s → facts_named index f.indices ≡ Some i → first_refusal (add_tests f stream index s i) ≡ None →
     AreFactsSound f → AreFactsSound (record f { streams = updated stream_name stream (with_member f.indices i) f.streams })
 with_member-sound f stream index s i found there none sound =
-    let third : List (Option CatalogError) = when (is_bad_window f.indices i s) (BadWindow stream index) ∷ [] in
-    let second : List (Option CatalogError) = when (not (bytes_eq i.template s.facts.template)) (OtherMapping stream index) ∷ third in
+    let third : List (Option Refusal) = when (is_bad_window f.indices i s) (BadWindow stream index) ∷ [] in
+    let second : List (Option Refusal) = when (not (bytes_eq i.template s.facts.template)) (OtherMapping stream index) ∷ third in
     let one = none_first (option_map (λ (other : PlainStream). IsMember other.facts.name index) (stream_of f index)) second none in
     let two = none_first (when (not (bytes_eq i.template s.facts.template)) (OtherMapping stream index)) third one.1 in
     let three = none_first (when (is_bad_window f.indices i s) (BadWindow stream index)) [] two.1 in
@@ -283,12 +283,12 @@ with_member-sound f stream index s i found there none sound =
 added_member-sound : (f : PlainFacts) (stream index : List ℕ) → add_refusal f stream index ≡ None → AreFactsSound f → AreFactsSound (added_member f stream index)
 added_member-sound f stream index none sound = by_stream (stream_named stream f.streams) refl none
   where
-    by_index : (s : PlainStream) → stream_named stream f.streams ≡ Some s → (o : Option HeldIndex) → facts_named index f.indices ≡ o → on_found o (NoSuchName index) (λ i. first_of (add_tests f stream index s i)) ≡ None →
+    by_index : (s : PlainStream) → stream_named stream f.streams ≡ Some s → (o : Option HeldIndex) → facts_named index f.indices ≡ o → on_found o (NoSuchName index) (λ i. first_refusal (add_tests f stream index s i)) ≡ None →
         AreFactsSound (with_found o f (λ i. record f { streams = updated stream_name stream (with_member f.indices i) f.streams }))
     by_index s found None there none = absurd (none_not_some (sym none))
     by_index s found (Some i) there none = with_member-sound f stream index s i found there none sound
 
-    by_stream : (o : Option PlainStream) → stream_named stream f.streams ≡ o → on_found o (NoSuchName stream) (λ s. on_found (facts_named index f.indices) (NoSuchName index) (λ i. first_of (add_tests f stream index s i))) ≡ None →
+    by_stream : (o : Option PlainStream) → stream_named stream f.streams ≡ o → on_found o (NoSuchName stream) (λ s. on_found (facts_named index f.indices) (NoSuchName index) (λ i. first_refusal (add_tests f stream index s i))) ≡ None →
         AreFactsSound (added_member f stream index)
     by_stream None found none = absurd (none_not_some (sym none))
     by_stream (Some s) found none = by_index s found (facts_named index f.indices) refl none

@@ -13,6 +13,8 @@ use Rattle.std.proofs.lemmas.Str.Parse.{IsNumeralModel, numerals_by_value, tells
 use Rattle.index_names.specs.Backing.{six_digits, behind_stream, backing_name, downsample_name}
 use Rattle.index_names.specs.BackingLaws.{behind_long}
 use Rattle.index_names.specs.Names.{is_letter_or_digit, is_name_byte, are_name_bytes, is_plain_name, is_hidden_name, is_stream_name, is_target_name, is_index_name}
+use Rattle.index_names.specs.Reading.{IsBackingName}
+use Rattle.stream_catalog.specs.Limits.{longest_fold_name}
 use Rattle.time_text.specs.Count.{longest}
 use Rattle.time_text.specs.Day.{last_where, year_of, month_of, day_of_month}
 use Rattle.time_text.specs.Interval.{interval_text}
@@ -21,7 +23,6 @@ use Rattle.time_text.specs.Unit.{unit_ms, unit_text}
 use Rattle.time_text.specs.declared.intervals.Interval.{Interval}
 use Rattle.time_text.specs.declared.units.Unit.{Unit as IntervalUnit}
 use Rattle.time_text.specs.declared.units.Unit.TheVariants.{Ms, S, M, H, D}
-use Rattle.stream_catalog.specs.WellNamed.{IsOrigin}
 
 -- ---- bytes of names
 
@@ -154,11 +155,11 @@ unfolding backing_name
 backing_named s now g is small = let rest = backing_rest s now g is small in hidden (s ++ behind_stream now g) rest.0 rest.1 rest.2
 
 -- what is known of a name that an index was made with
-origin_text : (name : List ℕ) → IsOrigin name → AreBytes name × (length name ≤ 122)
+origin_text : (name : List ℕ) → IsBackingName name → AreBytes name × (length name ≤ 122)
 unfolding backing_name
 origin_text name is =
-    let rest = backing_rest is.stream is.now is.generation is.backing.of_stream is.backing.within.1 in
-    subst (λ n. AreBytes n × (length n ≤ 122)) (sym is.backing.printed) (joined (codes ".ds-") (is.stream ++ behind_stream is.now is.generation) refl rest.0, omega (arith, rest.1))
+    let rest = backing_rest is.0 is.1 is.2 is.3.of_stream is.3.within.1 in
+    subst (λ n. AreBytes n × (length n ≤ 122)) (sym is.3.printed) (joined (codes ".ds-") (is.0 ++ behind_stream is.1 is.2) refl rest.0, omega (arith, rest.1))
 
 -- ---- names of folds
 
@@ -198,7 +199,7 @@ plain : (rest : List ℕ) → AreBytes rest → length rest ≤ 140 → is_targe
 unfolding is_target_name are_name_bytes
 plain rest bytes short = both (le-leb (length (codes "downsample-" ++ rest)) 160 (omega (arith, short))) bytes
 
-pub fold_named : (by : Interval) (origin : List ℕ) → IsOrigin origin → is_target_name (downsample_name by origin) ≡ true
+pub fold_named : (by : Interval) (origin : List ℕ) → IsBackingName origin → is_target_name (downsample_name by origin) ≡ true
 fold_named by origin is =
     let text = origin_text origin is in
     let interval = interval_bytes by in
@@ -206,7 +207,7 @@ fold_named by origin is =
     let long = length-append middle (codes "-" ++ origin) in
     plain (middle ++ (codes "-" ++ origin)) (joined middle (codes "-" ++ origin) interval.0 (joined (codes "-") origin refl text.0)) (omega (arith, long, interval.1, text.1))
 
-pub fold_long : (by : Interval) (origin : List ℕ) → IsOrigin origin → length (downsample_name by origin) ≤ 151
+pub fold_long : (by : Interval) (origin : List ℕ) → IsBackingName origin → length (downsample_name by origin) ≤ longest_fold_name
 fold_long by origin is =
     let text = origin_text origin is in
     let interval = interval_bytes by in

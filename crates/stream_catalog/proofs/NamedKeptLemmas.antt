@@ -5,6 +5,7 @@ use Rattle.std.specs.Option.{option_map}
 use Rattle.std.proofs.Common.{refl, ap, ◌∙◌, arith}
 use Rattle.index_names.specs.Backing.{backing_name, downsample_name}
 use Rattle.index_names.specs.Names.{is_stream_name, is_target_name, is_index_name}
+use Rattle.index_names.specs.Reading.{IsBackingName}
 use Rattle.lifecycle_swap.specs.Ends.{end_after}
 use Rattle.lifecycle_swap.specs.declared.lifecycles.Lifecycle.{Lifecycle}
 use Rattle.lifecycle_swap.specs.declared.planning.Step.{Step}
@@ -28,9 +29,9 @@ use Rattle.stream_catalog.specs.Streams.{template_put, first_name, first_start, 
 use Rattle.stream_catalog.specs.Indices.{blocked_index, blocked_in, folded_index, downsampled, without_member, task_index, index_deleted}
 use Rattle.stream_catalog.specs.Moves.{with_member, moved, moved_by, moved_all}
 use Rattle.stream_catalog.specs.Puts.{put_into}
-use Rattle.stream_catalog.specs.Rounds.{Running, ends_at, extended, deleted, new_task, started, started_if_free, start_at, done_step, done_steps, steps_of, run_stream, run_streams, lifecycle_run}
+use Rattle.stream_catalog.specs.Runs.{Running, ends_at, extended, deleted, new_task, started, started_if_free, start_at, run_step, run_steps, stream_plan, run_stream, run_streams, lifecycle_run}
 use Rattle.stream_catalog.specs.Units.{with_renamed, swapped, next_done, advanced_at, unit_from, unit_of}
-use Rattle.stream_catalog.specs.WellNamed.{IsOrigin, IsTemplateNamed, IsStreamNamed, IsIndexNamed, IsTaskNamed, IsWellNamed}
+use Rattle.stream_catalog.specs.WellNamed.{IsTemplateNamed, IsStreamNamed, IsIndexNamed, IsTaskNamed, IsWellNamed}
 use Rattle.stream_catalog.proofs.NamedLemmas.{each_found, each_updated, each_inserted}
 use Rattle.stream_catalog.proofs.NameLemmas.{backing_named, fold_named, fold_long, target_named}
 use Rattle.stream_catalog.proofs.RollLemmas.{each_end, may_roll}
@@ -58,10 +59,10 @@ template_named_well c t one is = record {
 }
 
 -- the name of a backing index is well formed, and of its own origin
-backing_index : (s : List ℕ) (now : ℤ) (g : ℕ) → IsTrue (is_stream_name s) → IsInstant now → 1 ≤ g → g ≤ 999_999 → IsTrue (is_index_name (backing_name s now g)) × IsOrigin (backing_name s now g)
+backing_index : (s : List ℕ) (now : ℤ) (g : ℕ) → IsTrue (is_stream_name s) → IsInstant now → 1 ≤ g → g ≤ 999_999 → IsTrue (is_index_name (backing_name s now g)) × IsBackingName (backing_name s now g)
 backing_index s now g of_stream is_now some few = (
   backing_named s now g of_stream few,
-  record { stream = s; now = now; generation = g; backing = record { of_stream = of_stream; at_instant = is_now; within = (some, few); printed = refl } },
+  (s, now, g, record { of_stream = of_stream; at_instant = is_now; within = (some, few); printed = refl }),
 )
 
 pub created_named : (c : PlainCatalog) (name : List ℕ) (now : ℤ) → IsTrue (is_stream_name name) → IsInstant now → IsWellNamed c → IsWellNamed (created c name now)
@@ -237,7 +238,7 @@ start_named r i by one is = by_test (is_taken (downsample_name by i.facts.origin
         let blocked = index_changed r.catalog i.facts.name blocked_index (λ k so. so) is in
         record { templates = is.templates; streams = is.streams; indices = blocked.indices; tasks = each_end IsTaskNamed r.catalog.tasks (new_task i by) is.tasks (fold_named by i.facts.origin one.1) }
 
-step_named : (members : List (List ℕ)) (r : Running) (step : Step) → IsWellNamed r.catalog → IsWellNamed (done_step members r step).catalog
+step_named : (members : List (List ℕ)) (r : Running) (step : Step) → IsWellNamed r.catalog → IsWellNamed (run_step members r step).catalog
 step_named members r (Extend place end) is = by_found (slice_get members place)
   where
     by_found : (o : Option (List ℕ)) → IsWellNamed (with_found o r (λ n. extended r n end)).catalog
@@ -258,13 +259,13 @@ step_named members r (Start place by) is = by_found (slice_get members place)
     by_found None = is
     by_found (Some n) = by_index n (index_named n r.catalog.indices) refl
 
-steps_named : (members : List (List ℕ)) (r : Running) (steps : List Step) → IsWellNamed r.catalog → IsWellNamed (done_steps members r steps).catalog
+steps_named : (members : List (List ℕ)) (r : Running) (steps : List Step) → IsWellNamed r.catalog → IsWellNamed (run_steps members r steps).catalog
 steps_named members r [] is = is
-steps_named members r (step ∷ steps) is = steps_named members (done_step members r step) steps (step_named members r step is)
+steps_named members r (step ∷ steps) is = steps_named members (run_step members r step) steps (step_named members r step is)
 
 streams_named_well : (now : ℤ) (r : Running) (ss : List PlainStream) → IsWellNamed r.catalog → IsWellNamed (run_streams now r ss).catalog
 streams_named_well now r [] is = is
-streams_named_well now r (s ∷ ss) is = streams_named_well now (run_stream now r s) ss (steps_named s.facts.members r (steps_of (facts_of r.catalog) s now) is)
+streams_named_well now r (s ∷ ss) is = streams_named_well now (run_stream now r s) ss (steps_named s.facts.members r (stream_plan (facts_of r.catalog) s now) is)
 
 pub run_named : (c : PlainCatalog) (now : ℤ) → IsWellNamed c → IsWellNamed (lifecycle_run c now).catalog
 unfolding lifecycle_run

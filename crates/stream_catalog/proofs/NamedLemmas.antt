@@ -8,7 +8,7 @@ use Rattle.std.proofs.Common.{refl, ap, ◌∙◌, sym, subst}
 use Rattle.std.proofs.lemmas.Bool.{both_ways}
 use Rattle.std.proofs.lemmas.Slice.Eq.{bytes_eq-Decides}
 use Rattle.row_cells.specs.Each.{Each}
-use Rattle.stream_catalog.specs.Lists.{named, updated, inserted, without}
+use Rattle.stream_catalog.specs.Lists.{found_by, updated, inserted, without}
 
 pub none_not_some : {A : Type 0} {a : A} → None ≡ Some a → ⊥
 none_not_some e = cc
@@ -22,25 +22,25 @@ cons_eq p q = cc
 -- ---- a list and its image
 
 module _ {A B : Type 0} (f : A → B) (a_name : A → List ℕ) (b_name : B → List ℕ) (same : (a : A) → b_name (f a) ≡ a_name a) where
-  pub named-map : (n : List ℕ) (xs : List A) → named b_name n (map f xs) ≡ option_map f (named a_name n xs)
+  pub named-map : (n : List ℕ) (xs : List A) → found_by b_name n (map f xs) ≡ option_map f (found_by a_name n xs)
   named-map n [] = refl
   named-map n (x ∷ xs) =
-      ap (λ m. if bytes_eq m n then Some (f x) else named b_name n (map f xs)) (same x) ∙ by_test (bytes_eq (a_name x) n) (named-map n xs)
+      ap (λ m. if bytes_eq m n then Some (f x) else found_by b_name n (map f xs)) (same x) ∙ by_test (bytes_eq (a_name x) n) (named-map n xs)
     where
-      by_test : (b : Bool) → named b_name n (map f xs) ≡ option_map f (named a_name n xs)
-          → (if b then Some (f x) else named b_name n (map f xs)) ≡ option_map f (if b then Some x else named a_name n xs)
+      by_test : (b : Bool) → found_by b_name n (map f xs) ≡ option_map f (found_by a_name n xs)
+          → (if b then Some (f x) else found_by b_name n (map f xs)) ≡ option_map f (if b then Some x else found_by a_name n xs)
       by_test true later = refl
       by_test false later = later
 
-  pub updated-map : (n : List ℕ) (g : A → A) (h : B → B) (xs : List A) → ((x : A) → named a_name n xs ≡ Some x → f (g x) ≡ h (f x)) →
+  pub updated-map : (n : List ℕ) (g : A → A) (h : B → B) (xs : List A) → ((x : A) → found_by a_name n xs ≡ Some x → f (g x) ≡ h (f x)) →
       map f (updated a_name n g xs) ≡ updated b_name n h (map f xs)
   updated-map n g h [] step = refl
   updated-map n g h (x ∷ xs) step =
       by_test (bytes_eq (a_name x) n) (λ found. updated-map n g h xs found) step
       ∙ sym (ap (λ m. if bytes_eq m n then h (f x) ∷ map f xs else f x ∷ updated b_name n h (map f xs)) (same x))
     where
-      by_test : (b : Bool) → (((y : A) → named a_name n xs ≡ Some y → f (g y) ≡ h (f y)) → map f (updated a_name n g xs) ≡ updated b_name n h (map f xs))
-          → ((y : A) → (if b then Some x else named a_name n xs) ≡ Some y → f (g y) ≡ h (f y))
+      by_test : (b : Bool) → (((y : A) → found_by a_name n xs ≡ Some y → f (g y) ≡ h (f y)) → map f (updated a_name n g xs) ≡ updated b_name n h (map f xs))
+          → ((y : A) → (if b then Some x else found_by a_name n xs) ≡ Some y → f (g y) ≡ h (f y))
           → map f (if b then g x ∷ xs else x ∷ updated a_name n g xs) ≡ (if b then h (f x) ∷ map f xs else f x ∷ updated b_name n h (map f xs))
       by_test true later step = ap (λ y. y ∷ map f xs) (step x refl)
       by_test false later step = ap (λ ys. f x ∷ ys) (later step)
@@ -80,20 +80,20 @@ filter-map_alike f p q alike (x ∷ xs) = by_test (p x) (filter-map_alike f p q 
 -- ---- what holds of each
 
 module _ {A : Type 0} (name : A → List ℕ) (P : A → Type 0) where
-  pub each_found : (n : List ℕ) (xs : List A) (x : A) → named name n xs ≡ Some x → Each P xs → P x
+  pub each_found : (n : List ℕ) (xs : List A) (x : A) → found_by name n xs ≡ Some x → Each P xs → P x
   each_found n [] x found each = absurd (none_not_some found)
   each_found n (y ∷ ys) x found each = by_test (bytes_eq (name y) n) (λ is. each_found n ys x is each.1) found
     where
-      by_test : (b : Bool) → (named name n ys ≡ Some x → P x) → (if b then Some y else named name n ys) ≡ Some x → P x
+      by_test : (b : Bool) → (found_by name n ys ≡ Some x → P x) → (if b then Some y else found_by name n ys) ≡ Some x → P x
       by_test true later found = subst P (some_is found) each.0
       by_test false later found = later found
 
-  pub each_updated : (n : List ℕ) (g : A → A) (xs : List A) → ((x : A) → named name n xs ≡ Some x → P (g x)) → Each P xs → Each P (updated name n g xs)
+  pub each_updated : (n : List ℕ) (g : A → A) (xs : List A) → ((x : A) → found_by name n xs ≡ Some x → P (g x)) → Each P xs → Each P (updated name n g xs)
   each_updated n g [] step each = tt
   each_updated n g (x ∷ xs) step each = by_test (bytes_eq (name x) n) (λ found. each_updated n g xs found each.1) step
     where
-      by_test : (b : Bool) → (((y : A) → named name n xs ≡ Some y → P (g y)) → Each P (updated name n g xs))
-          → ((y : A) → (if b then Some x else named name n xs) ≡ Some y → P (g y))
+      by_test : (b : Bool) → (((y : A) → found_by name n xs ≡ Some y → P (g y)) → Each P (updated name n g xs))
+          → ((y : A) → (if b then Some x else found_by name n xs) ≡ Some y → P (g y))
           → Each P (if b then g x ∷ xs else x ∷ updated name n g xs)
       by_test true later step = (step x refl, each.1)
       by_test false later step = (each.0, later step)
@@ -109,54 +109,54 @@ module _ {A : Type 0} (name : A → List ℕ) (P : A → Type 0) where
 -- ---- what is found
 
 module _ {A : Type 0} (name : A → List ℕ) where
-  pub found_name : (n : List ℕ) (xs : List A) (x : A) → named name n xs ≡ Some x → bytes_eq (name x) n ≡ true
+  pub found_name : (n : List ℕ) (xs : List A) (x : A) → found_by name n xs ≡ Some x → bytes_eq (name x) n ≡ true
   found_name n [] x found = absurd (none_not_some found)
   found_name n (y ∷ ys) x found = by_test (bytes_eq (name y) n) refl (λ is. found_name n ys x is) found
     where
-      by_test : (b : Bool) → bytes_eq (name y) n ≡ b → (named name n ys ≡ Some x → bytes_eq (name x) n ≡ true) → (if b then Some y else named name n ys) ≡ Some x → bytes_eq (name x) n ≡ true
+      by_test : (b : Bool) → bytes_eq (name y) n ≡ b → (found_by name n ys ≡ Some x → bytes_eq (name x) n ≡ true) → (if b then Some y else found_by name n ys) ≡ Some x → bytes_eq (name x) n ≡ true
       by_test true same later found = ap (λ z. bytes_eq (name z) n) (sym (some_is found)) ∙ same
       by_test false same later found = later found
 
   -- an element of another name hides nothing
-  pub named_inserted : (n : List ℕ) (x : A) (xs : List A) → bytes_eq (name x) n ≡ false → named name n (inserted name x xs) ≡ named name n xs
+  pub named_inserted : (n : List ℕ) (x : A) (xs : List A) → bytes_eq (name x) n ≡ false → found_by name n (inserted name x xs) ≡ found_by name n xs
   named_inserted n x [] other = ap (λ b. if b then Some x else None) other
   named_inserted n x (y ∷ ys) other = by_test (is_le (slice_cmp nat_cmp (name x) (name y))) (named_inserted n x ys other)
     where
-      by_test : (b : Bool) → named name n (inserted name x ys) ≡ named name n ys → named name n (if b then x ∷ y ∷ ys else y ∷ inserted name x ys) ≡ named name n (y ∷ ys)
-      by_test true later = ap (λ b. if b then Some x else named name n (y ∷ ys)) other
+      by_test : (b : Bool) → found_by name n (inserted name x ys) ≡ found_by name n ys → found_by name n (if b then x ∷ y ∷ ys else y ∷ inserted name x ys) ≡ found_by name n (y ∷ ys)
+      by_test true later = ap (λ b. if b then Some x else found_by name n (y ∷ ys)) other
       by_test false later = ap (λ o. if bytes_eq (name y) n then Some y else o) later
 
   -- look-ups of other names don't miss what was taken out
-  pub named_without : (n m : List ℕ) (xs : List A) → bytes_eq n m ≡ false → named name m (without name n xs) ≡ named name m xs
+  pub named_without : (n m : List ℕ) (xs : List A) → bytes_eq n m ≡ false → found_by name m (without name n xs) ≡ found_by name m xs
   named_without n m [] other = refl
   named_without n m (x ∷ xs) other = by_tests (bytes_eq (name x) n) (bytes_eq (name x) m) refl refl (named_without n m xs other)
     where
-      by_tests : (a b : Bool) → bytes_eq (name x) n ≡ a → bytes_eq (name x) m ≡ b → named name m (without name n xs) ≡ named name m xs
-          → named name m (cond (not a) (x ∷ without name n xs) (without name n xs)) ≡ (if b then Some x else named name m xs)
+      by_tests : (a b : Bool) → bytes_eq (name x) n ≡ a → bytes_eq (name x) m ≡ b → found_by name m (without name n xs) ≡ found_by name m xs
+          → found_by name m (cond (not a) (x ∷ without name n xs) (without name n xs)) ≡ (if b then Some x else found_by name m xs)
       by_tests true true gone same later = absurd (both_ways (bytes_eq n m) other (ap (λ k. bytes_eq k m) (sym ((bytes_eq-Decides (name x) n).0 gone)) ∙ same))
       by_tests true false gone same later = later
       by_tests false true gone same later = rw same refl
       by_tests false false gone same later = rw same later
 
   -- look-ups after a change that keeps names
-  pub named_updated : (n m : List ℕ) (g : A → A) (xs : List A) → ((x : A) → name (g x) ≡ name x) → bytes_eq n m ≡ false → named name m (updated name n g xs) ≡ named name m xs
+  pub named_updated : (n m : List ℕ) (g : A → A) (xs : List A) → ((x : A) → name (g x) ≡ name x) → bytes_eq n m ≡ false → found_by name m (updated name n g xs) ≡ found_by name m xs
   named_updated n m g [] keeps other = refl
   named_updated n m g (x ∷ xs) keeps other = by_tests (bytes_eq (name x) n) (bytes_eq (name x) m) refl refl (named_updated n m g xs keeps other)
     where
-      by_tests : (a b : Bool) → bytes_eq (name x) n ≡ a → bytes_eq (name x) m ≡ b → named name m (updated name n g xs) ≡ named name m xs
-          → named name m (if a then g x ∷ xs else x ∷ updated name n g xs) ≡ (if b then Some x else named name m xs)
+      by_tests : (a b : Bool) → bytes_eq (name x) n ≡ a → bytes_eq (name x) m ≡ b → found_by name m (updated name n g xs) ≡ found_by name m xs
+          → found_by name m (if a then g x ∷ xs else x ∷ updated name n g xs) ≡ (if b then Some x else found_by name m xs)
       by_tests true true here same later = absurd (both_ways (bytes_eq n m) other (ap (λ k. bytes_eq k m) (sym ((bytes_eq-Decides (name x) n).0 here)) ∙ same))
-      by_tests true false here same later = ap (λ b. if b then Some (g x) else named name m xs) (ap (λ k. bytes_eq k m) (keeps x) ∙ same)
+      by_tests true false here same later = ap (λ b. if b then Some (g x) else found_by name m xs) (ap (λ k. bytes_eq k m) (keeps x) ∙ same)
       by_tests false true here same later = rw same refl
       by_tests false false here same later = rw same later
 
-  pub named_updated_here : (n : List ℕ) (g : A → A) (xs : List A) → ((x : A) → name (g x) ≡ name x) → named name n (updated name n g xs) ≡ option_map g (named name n xs)
+  pub named_updated_here : (n : List ℕ) (g : A → A) (xs : List A) → ((x : A) → name (g x) ≡ name x) → found_by name n (updated name n g xs) ≡ option_map g (found_by name n xs)
   named_updated_here n g [] keeps = refl
   named_updated_here n g (x ∷ xs) keeps = by_test (bytes_eq (name x) n) refl (named_updated_here n g xs keeps)
     where
-      by_test : (b : Bool) → bytes_eq (name x) n ≡ b → named name n (updated name n g xs) ≡ option_map g (named name n xs)
-          → named name n (if b then g x ∷ xs else x ∷ updated name n g xs) ≡ option_map g (if b then Some x else named name n xs)
-      by_test true here later = ap (λ b. if b then Some (g x) else named name n xs) (ap (λ k. bytes_eq k n) (keeps x) ∙ here)
+      by_test : (b : Bool) → bytes_eq (name x) n ≡ b → found_by name n (updated name n g xs) ≡ option_map g (found_by name n xs)
+          → found_by name n (if b then g x ∷ xs else x ∷ updated name n g xs) ≡ option_map g (if b then Some x else found_by name n xs)
+      by_test true here later = ap (λ b. if b then Some (g x) else found_by name n xs) (ap (λ k. bytes_eq k n) (keeps x) ∙ here)
       by_test false here later = rw here later
 
   -- a change that keeps names

@@ -21,12 +21,13 @@ use Rattle.lifecycle_swap.specs.Ends.{end_after}
 use Rattle.ts_mapping.specs.declared.templates.Template.{Template}
 use Rattle.ts_mapping.specs.FactLaws.{mapping_is}
 use Rattle.ts_mapping.specs.Facts.{IsTemplate}
-use Rattle.stream_catalog.specs.declared.answers.CatalogError.{CatalogError}
-use Rattle.stream_catalog.specs.declared.answers.CatalogError.TheVariants.{NameTaken, NoTemplate, Reserved, Limit}
+use Rattle.stream_catalog.specs.declared.answers.Refusal.{Refusal}
+use Rattle.stream_catalog.specs.declared.answers.Refusal.TheVariants.{NameTaken, NoTemplate, Reserved, Limit}
 use Rattle.stream_catalog.specs.declared.answers.What.TheVariants.{Streams, Indices}
 use Rattle.stream_catalog.specs.Plain.{PlainIndex, PlainStream, PlainCatalog, PlainFacts, facts_of}
-use Rattle.stream_catalog.specs.Lists.{when, with_found, named, inserted, template_name, stream_name, index_name, facts_name, template_named, facts_named, index_named}
-use Rattle.stream_catalog.specs.Names.{most_streams, most_indices, names_of, is_taken, matches, better_of, outranks, template_for}
+use Rattle.stream_catalog.specs.Lists.{when, with_found, found_by, inserted, template_name, stream_name, index_name, facts_name, template_named, facts_named, index_named}
+use Rattle.stream_catalog.specs.Limits.{most_streams, most_indices}
+use Rattle.stream_catalog.specs.Names.{names_of, is_taken, matches, better_of, outranks, template_for}
 use Rattle.stream_catalog.specs.Streams.{new_index, new_stream, first_start, first_name, create_refusal}
 use Rattle.stream_catalog.specs.Laws.{CreationsKeepSound}
 use Rattle.stream_catalog.specs.Sound.{times, AreOnce, IsThere, IsHeld, IsMemberOf, IsStream, Form, form_of, template_form, Agrees, IsIndexSound, IsUnderWay, AreFactsSound, IsSoundCatalog}
@@ -53,12 +54,12 @@ before_other a b before same =
 pub before_apart : (a b : List ℕ) → IsBefore a b → bytes_eq a b ≡ false
 before_apart a b before = false_from_ne_true (bytes_eq a b) (λ is. before_other a b before ((bytes_eq-Decides a b).0 is))
 
-pub all_found : {A : Type 0} (name : A → List ℕ) (xs : List A) → KeysAscend (map name xs) → Each (λ x. named name (name x) xs ≡ Some x) xs
+pub all_found : {A : Type 0} (name : A → List ℕ) (xs : List A) → KeysAscend (map name xs) → Each (λ x. found_by name (name x) xs ≡ Some x) xs
 all_found name [] ascend = tt
 all_found name (x ∷ xs) ascend = (
-  ap (λ b. if b then Some x else named name (name x) xs) (bytes_eq-itself (name x)),
-  Each-both (λ y. IsBefore (name x) (name y)) (λ y. named name (name y) xs ≡ Some y) (λ y. named name (name y) (x ∷ xs) ≡ Some y)
-      (λ y before found. ap (λ b. if b then Some x else named name (name y) xs) (before_apart (name x) (name y) before) ∙ found)
+  ap (λ b. if b then Some x else found_by name (name x) xs) (bytes_eq-itself (name x)),
+  Each-both (λ y. IsBefore (name x) (name y)) (λ y. found_by name (name y) xs ≡ Some y) (λ y. found_by name (name y) (x ∷ xs) ≡ Some y)
+      (λ y before found. ap (λ b. if b then Some x else found_by name (name y) xs) (before_apart (name x) (name y) before) ∙ found)
       xs (each_of_map name (IsBefore (name x)) xs ascend.0) (all_found name xs ascend.1),
 )
 
@@ -107,7 +108,7 @@ suits_new f t found sound =
       itself = λ same. one;
       others = Each-weaker (λ a. Agrees a (template_form t)) (Agrees (template_form t)) (λ a agree. turned a (template_form t) agree) (map form_of f.indices) with_all;
       by_others = with_all;
-      templates = to_map f.templates (Each-weaker (λ u. named template_name u.name f.templates ≡ Some u) (λ u. Agrees (template_form t) (template_form u))
+      templates = to_map f.templates (Each-weaker (λ u. found_by template_name u.name f.templates ≡ Some u) (λ u. Agrees (template_form t) (template_form u))
           (λ u here same. subst (λ (v : Template). FieldsAgree t.schema.fields v.schema.fields) (some_is (sym found ∙ (ap (λ n. template_named n f.templates) same ∙ here))) one)
           f.templates (all_found template_name f.templates sound.template_order));
     }
@@ -188,11 +189,11 @@ pub record MayCreate (f : PlainFacts) (name : List ℕ) (now : ℤ) : Type 0 whe
 
 pub may_create : (f : PlainFacts) (name : List ℕ) (now : ℤ) → create_refusal f name now ≡ None → MayCreate f name now
 may_create f name now none =
-    let sixth : List (Option CatalogError) = when (is_taken (first_name name now) f) (NameTaken (first_name name now)) ∷ [] in
-    let fifth : List (Option CatalogError) = when (nat_le most_indices (length f.indices)) (Limit Indices) ∷ sixth in
-    let fourth : List (Option CatalogError) = when (nat_le most_streams (length f.streams)) (Limit Streams) ∷ fifth in
-    let third : List (Option CatalogError) = when (not (is_some (template_for name f.templates))) NoTemplate ∷ fourth in
-    let second : List (Option CatalogError) = when (is_reserved name) Reserved ∷ third in
+    let sixth : List (Option Refusal) = when (is_taken (first_name name now) f) (NameTaken (first_name name now)) ∷ [] in
+    let fifth : List (Option Refusal) = when (nat_le most_indices (length f.indices)) (Limit Indices) ∷ sixth in
+    let fourth : List (Option Refusal) = when (nat_le most_streams (length f.streams)) (Limit Streams) ∷ fifth in
+    let third : List (Option Refusal) = when (not (is_some (template_for name f.templates))) NoTemplate ∷ fourth in
+    let second : List (Option Refusal) = when (is_reserved name) Reserved ∷ third in
     let one = none_first (when (is_taken name f) (NameTaken name)) second none in
     let two = none_first (when (is_reserved name) Reserved) third one.1 in
     let three = none_first (when (not (is_some (template_for name f.templates))) NoTemplate) fourth two.1 in

@@ -31,7 +31,7 @@ use Rattle.stream_catalog.specs.Names.{is_taken}
 use Rattle.stream_catalog.specs.Streams.{last_of, is_write, write_name}
 use Rattle.stream_catalog.specs.Indices.{blocked_index, task_index, without_member}
 use Rattle.stream_catalog.specs.Laws.{RunsKeepSound}
-use Rattle.stream_catalog.specs.Rounds.{Running, member_facts, facts_from, ends_at, extended, deleted, new_task, started, started_if_free, start_at, done_step, done_steps, run_stream, run_streams, lifecycle_run}
+use Rattle.stream_catalog.specs.Runs.{Running, member_facts, facts_from, ends_at, extended, deleted, new_task, started, started_if_free, start_at, run_step, run_steps, run_stream, run_streams, lifecycle_run}
 use Rattle.stream_catalog.specs.Sound.{times, AreOnce, IsStream, IsSoundCatalog}
 use Rattle.stream_catalog.proofs.NamedLemmas.{none_not_some, some_is, found_name, named-map, without-map, named_updated, named_without, updated-map}
 use Rattle.stream_catalog.proofs.CountLemmas.{other_head, bytes_eq-sym, bytes_eq-itself, times-append, times-filter}
@@ -66,19 +66,19 @@ done_deeds r (d ∷ ds) = done_deeds (done_as d.name r d.step) ds
 abbrev IsPlaced : List (List ℕ) → Deed → Type 0
 IsPlaced members d = slice_get members (place_of d.step) ≡ Some d.name
 
-done_as-is : (members : List (List ℕ)) (r : Running) (n : List ℕ) (step : Step) → slice_get members (place_of step) ≡ Some n → done_step members r step ≡ done_as n r step
+done_as-is : (members : List (List ℕ)) (r : Running) (n : List ℕ) (step : Step) → slice_get members (place_of step) ≡ Some n → run_step members r step ≡ done_as n r step
 done_as-is members r n (Extend place end) is = ap (λ o. with_found o r (λ k. extended r k end)) is
 done_as-is members r n (Delete place) is = ap (λ o. with_found o r (λ k. deleted r k)) is
 done_as-is members r n (Start place by) is = ap (λ o. with_found o r (λ k. start_at r k by)) is
 
-done_deeds-are : (members : List (List ℕ)) (r : Running) (ds : List Deed) → Each (IsPlaced members) ds → done_steps members r (map (λ (d : Deed). d.step) ds) ≡ done_deeds r ds
+done_deeds-are : (members : List (List ℕ)) (r : Running) (ds : List Deed) → Each (IsPlaced members) ds → run_steps members r (map (λ (d : Deed). d.step) ds) ≡ done_deeds r ds
 done_deeds-are members r [] each = refl
 done_deeds-are members r (d ∷ ds) each =
-    ap (λ q. done_steps members q (map (λ (e : Deed). e.step) ds)) (done_as-is members r d.name d.step each.0) ∙ done_deeds-are members (done_as d.name r d.step) ds each.1
+    ap (λ q. run_steps members q (map (λ (e : Deed). e.step) ds)) (done_as-is members r d.name d.step each.0) ∙ done_deeds-are members (done_as d.name r d.step) ds each.1
 
-done_steps-append : (members : List (List ℕ)) (r : Running) (xs ys : List Step) → done_steps members r (xs ++ ys) ≡ done_steps members (done_steps members r xs) ys
-done_steps-append members r [] ys = refl
-done_steps-append members r (x ∷ xs) ys = done_steps-append members (done_step members r x) xs ys
+run_steps-append : (members : List (List ℕ)) (r : Running) (xs ys : List Step) → run_steps members r (xs ++ ys) ≡ run_steps members (run_steps members r xs) ys
+run_steps-append members r [] ys = refl
+run_steps-append members r (x ∷ xs) ys = run_steps-append members (run_step members r x) xs ys
 
 -- ---- the deeds of members, by what is asked of each
 
@@ -552,7 +552,7 @@ module _ (c : PlainCatalog) (s : PlainStream) (sound : IsSoundCatalog c) (found 
 -- ---- a run over one stream
 
 plan_run : (r : Running) (s : PlainStream) (now look_ahead : ℤ) (life : Option Lifecycle) → IsSoundCatalog r.catalog → stream_named s.facts.name r.catalog.streams ≡ Some s →
-    IsRun s r.catalog (done_steps s.facts.members r (plan_of now look_ahead life (facts_from (facts_of r.catalog) s 0 s.facts.members))).catalog
+    IsRun s r.catalog (run_steps s.facts.members r (plan_of now look_ahead life (facts_from (facts_of r.catalog) s 0 s.facts.members))).catalog
 plan_run r s now look_ahead life sound found =
     let c = r.catalog in
     let f = facts_of r.catalog in
@@ -562,15 +562,15 @@ plan_run r s now look_ahead life sound found =
     let first = deeds asks f s 0 ms in
     let fit_first = fit_deeds c s sound found now look_ahead asks true (extension_due c s sound found now look_ahead) in
     let leaves_first = all_done until r first (once_deeds c s sound found now look_ahead asks) (Each-weaker (IsFit until c s true) (λ (d : Deed). MayAs until c d.name d.step) (λ d is. is.may) first fit_first) sound in
-    let steps_first : done_steps ms r (filter_map asks (facts_from f s 0 ms)) ≡ done_deeds r first =
-    ap (done_steps ms r) (deeds-steps asks f s 0 ms) ∙ done_deeds-are ms r first (Each-weaker (IsFit until c s true) (IsPlaced ms) (λ d is. is.placed) first fit_first) in
+    let steps_first : run_steps ms r (filter_map asks (facts_from f s 0 ms)) ≡ done_deeds r first =
+    ap (run_steps ms r) (deeds-steps asks f s 0 ms) ∙ done_deeds-are ms r first (Each-weaker (IsFit until c s true) (IsPlaced ms) (λ d is. is.placed) first fit_first) in
     by_life life first fit_first leaves_first steps_first
   where
     by_life : (o : Option Lifecycle) (first : List Deed) → Each (IsFit (end_after now look_ahead) r.catalog s true) first → LeavesMany (names_in first) r.catalog (done_deeds r first).catalog →
-        done_steps s.facts.members r (filter_map (extension now look_ahead) (facts_from (facts_of r.catalog) s 0 s.facts.members)) ≡ done_deeds r first →
-        IsRun s r.catalog (done_steps s.facts.members r (plan_of now look_ahead o (facts_from (facts_of r.catalog) s 0 s.facts.members))).catalog
+        run_steps s.facts.members r (filter_map (extension now look_ahead) (facts_from (facts_of r.catalog) s 0 s.facts.members)) ≡ done_deeds r first →
+        IsRun s r.catalog (run_steps s.facts.members r (plan_of now look_ahead o (facts_from (facts_of r.catalog) s 0 s.facts.members))).catalog
     by_life None first fit_first leaves_first steps_first =
-        subst (λ (q : Running). IsRun s r.catalog q.catalog) (sym (done_steps-append s.facts.members r (filter_map (extension now look_ahead) (facts_from (facts_of r.catalog) s 0 s.facts.members)) [] ∙ steps_first))
+        subst (λ (q : Running). IsRun s r.catalog q.catalog) (sym (run_steps-append s.facts.members r (filter_map (extension now look_ahead) (facts_from (facts_of r.catalog) s 0 s.facts.members)) [] ∙ steps_first))
         (record { sound = leaves_first.sound; others = λ z there other. leaves_first.apart z (apart_names r.catalog s sound found now look_ahead z there other true first fit_first) there })
     by_life (Some lived) first fit_first leaves_first steps_first =
         let c = r.catalog in
@@ -584,10 +584,10 @@ plan_run r s now look_ahead life sound found =
         let leaves_second = all_done until run second (once_deeds c s sound found now look_ahead asks)
         (Each-weaker (IsFit until c s false) (λ (d : Deed). MayAs until run.catalog d.name d.step)
         (λ d is. still_many until (names_in first) c run.catalog leaves_first d.name d.step (no_common c s sound found now look_ahead d.name first is.is_so fit_first) is.may) second fit_second) leaves_first.sound in
-        let steps : done_steps ms r (filter_map (extension now look_ahead) (facts_from f s 0 ms) ++ filter_map asks (facts_from f s 0 ms)) ≡ done_deeds run second =
-        done_steps-append ms r (filter_map (extension now look_ahead) (facts_from f s 0 ms)) (filter_map asks (facts_from f s 0 ms))
-        ∙ (ap (λ (q : Running). done_steps ms q (filter_map asks (facts_from f s 0 ms))) steps_first
-        ∙ (ap (done_steps ms run) (deeds-steps asks f s 0 ms)
+        let steps : run_steps ms r (filter_map (extension now look_ahead) (facts_from f s 0 ms) ++ filter_map asks (facts_from f s 0 ms)) ≡ done_deeds run second =
+        run_steps-append ms r (filter_map (extension now look_ahead) (facts_from f s 0 ms)) (filter_map asks (facts_from f s 0 ms))
+        ∙ (ap (λ (q : Running). run_steps ms q (filter_map asks (facts_from f s 0 ms))) steps_first
+        ∙ (ap (run_steps ms run) (deeds-steps asks f s 0 ms)
         ∙ done_deeds-are ms run second (Each-weaker (IsFit until c s false) (IsPlaced ms) (λ d is. is.placed) second fit_second))) in
         subst (λ (q : Running). IsRun s r.catalog q.catalog) (sym steps)
         (record {
@@ -599,7 +599,7 @@ plan_run r s now look_ahead life sound found =
 stream_run : (now : ℤ) (r : Running) (s : PlainStream) → IsSoundCatalog r.catalog → stream_named s.facts.name r.catalog.streams ≡ Some s → IsRun s r.catalog (run_stream now r s).catalog
 stream_run now r s sound found = by_template (template_named s.facts.template r.catalog.templates)
   where
-    by_template : (o : Option Template) → IsRun s r.catalog (done_steps s.facts.members r (with_found o [] (λ t. plan_of now t.look_ahead s.life (facts_from (facts_of r.catalog) s 0 s.facts.members)))).catalog
+    by_template : (o : Option Template) → IsRun s r.catalog (run_steps s.facts.members r (with_found o [] (λ t. plan_of now t.look_ahead s.life (facts_from (facts_of r.catalog) s 0 s.facts.members)))).catalog
     by_template None = record { sound = sound; others = λ z there other. there }
     by_template (Some t) = plan_run r s now t.look_ahead s.life sound found
 

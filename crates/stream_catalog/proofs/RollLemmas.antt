@@ -16,13 +16,14 @@ use Rattle.index_names.specs.Backing.{greatest_generation}
 use Rattle.lifecycle_swap.specs.Ends.{end_after}
 use Rattle.ts_mapping.specs.declared.templates.Template.{Template}
 use Rattle.ts_mapping.specs.Facts.{IsTemplate}
-use Rattle.stream_catalog.specs.declared.answers.CatalogError.{CatalogError}
-use Rattle.stream_catalog.specs.declared.answers.CatalogError.TheVariants.{NameTaken, NoSuchName, Limit, TimeOver}
+use Rattle.stream_catalog.specs.declared.answers.Refusal.{Refusal}
+use Rattle.stream_catalog.specs.declared.answers.Refusal.TheVariants.{NameTaken, NoSuchName, Limit, TimeOver}
 use Rattle.stream_catalog.specs.declared.answers.What.TheVariants.{Indices, Generations}
 use Rattle.stream_catalog.specs.declared.facts.HeldIndex.{HeldIndex}
 use Rattle.stream_catalog.specs.Plain.{PlainIndex, PlainStream, PlainCatalog, PlainFacts, facts_of}
-use Rattle.stream_catalog.specs.Lists.{when, on_found, with_found, first_of, updated, inserted, template_name, stream_name, index_name, facts_name, template_named, stream_named, facts_named, index_named}
-use Rattle.stream_catalog.specs.Names.{most_indices, is_taken}
+use Rattle.stream_catalog.specs.Lists.{when, on_found, with_found, first_refusal, updated, inserted, template_name, stream_name, index_name, facts_name, template_named, stream_named, facts_named, index_named}
+use Rattle.stream_catalog.specs.Limits.{most_indices}
+use Rattle.stream_catalog.specs.Names.{is_taken}
 use Rattle.stream_catalog.specs.Streams.{last_of, write_name, next_name, next_index, with_next, rollover_refusal}
 use Rattle.stream_catalog.specs.Laws.{RolloversKeepSound}
 use Rattle.stream_catalog.specs.Sound.{times, AreOnce, IsHeld, IsMemberOf, EndsBefore, WindowsFollow, IsStream, IsIndexSound, IsUnderWay, AreFactsSound, IsSoundCatalog}
@@ -80,7 +81,7 @@ members-updated name now s n (x ∷ xs) found = by_test (bytes_eq x.facts.name n
 
 -- ---- what is known where nothing refuses
 
-abbrev roll_tests : PlainFacts → ℤ → PlainStream → HeldIndex → List (Option CatalogError)
+abbrev roll_tests : PlainFacts → ℤ → PlainStream → HeldIndex → List (Option Refusal)
 roll_tests f now s w =
     when (int_eq w.end last_instant) TimeOver
     ∷ when (nat_le greatest_generation s.facts.generation) (Limit Generations)
@@ -95,12 +96,12 @@ pub record MayRoll (f : PlainFacts) (s : PlainStream) (w : HeldIndex) (now : ℤ
 
 pub may_roll : (f : PlainFacts) (name : List ℕ) (now : ℤ) (s : PlainStream) (w : HeldIndex) → stream_named name f.streams ≡ Some s → facts_named (write_name s) f.indices ≡ Some w → rollover_refusal f name now ≡ None → MayRoll f s w now
 may_roll f name now s w found there none =
-    let of_stream : on_found (facts_named (write_name s) f.indices) (NoSuchName (write_name s)) (λ v. first_of (roll_tests f now s v)) ≡ None =
-    sym (ap (λ o. on_found o (NoSuchName name) (λ (z : PlainStream). on_found (facts_named (write_name z) f.indices) (NoSuchName (write_name z)) (λ v. first_of (roll_tests f now z v)))) found) ∙ none in
-    let of_index : first_of (roll_tests f now s w) ≡ None = sym (ap (λ o. on_found o (NoSuchName (write_name s)) (λ (v : HeldIndex). first_of (roll_tests f now s v))) there) ∙ of_stream in
-    let fourth : List (Option CatalogError) = when (is_taken (next_name s now) f) (NameTaken (next_name s now)) ∷ [] in
-    let third : List (Option CatalogError) = when (nat_le most_indices (length f.indices)) (Limit Indices) ∷ fourth in
-    let second : List (Option CatalogError) = when (nat_le greatest_generation s.facts.generation) (Limit Generations) ∷ third in
+    let of_stream : on_found (facts_named (write_name s) f.indices) (NoSuchName (write_name s)) (λ v. first_refusal (roll_tests f now s v)) ≡ None =
+    sym (ap (λ o. on_found o (NoSuchName name) (λ (z : PlainStream). on_found (facts_named (write_name z) f.indices) (NoSuchName (write_name z)) (λ v. first_refusal (roll_tests f now z v)))) found) ∙ none in
+    let of_index : first_refusal (roll_tests f now s w) ≡ None = sym (ap (λ o. on_found o (NoSuchName (write_name s)) (λ (v : HeldIndex). first_refusal (roll_tests f now s v))) there) ∙ of_stream in
+    let fourth : List (Option Refusal) = when (is_taken (next_name s now) f) (NameTaken (next_name s now)) ∷ [] in
+    let third : List (Option Refusal) = when (nat_le most_indices (length f.indices)) (Limit Indices) ∷ fourth in
+    let second : List (Option Refusal) = when (nat_le greatest_generation s.facts.generation) (Limit Generations) ∷ third in
     let one = none_first (when (int_eq w.end last_instant) TimeOver) second of_index in
     let two = none_first (when (nat_le greatest_generation s.facts.generation) (Limit Generations)) third one.1 in
     let three = none_first (when (nat_le most_indices (length f.indices)) (Limit Indices)) fourth two.1 in

@@ -20,7 +20,7 @@ use Rattle.stream_catalog.specs.Plain.{PlainIndex, PlainStream, PlainCatalog, Pl
 use Rattle.stream_catalog.specs.Lists.{updated, stream_name, index_name, facts_name, facts_named, index_named}
 use Rattle.stream_catalog.specs.Names.{names_of, is_taken}
 use Rattle.stream_catalog.specs.Indices.{blocked_index, blocked_in, task_index}
-use Rattle.stream_catalog.specs.Rounds.{Running, ends_at, new_task, started}
+use Rattle.stream_catalog.specs.Runs.{Running, ends_at, new_task, started}
 use Rattle.stream_catalog.specs.Sound.{times, AreOnce, IsWithin, Meets, AreRaw, AreFolds, AreRows, IsHeld, IsMemberOf, EndsBefore, WindowsFollow, IsStream, KeepsMark, IsTaskOf, IsIndexSound, IsUnderWay, AreFactsSound, IsSoundCatalog}
 use Rattle.stream_catalog.proofs.NamedLemmas.{none_not_some, some_is, each_updated, named_updated, named_updated_here, names_updated, updated-map}
 use Rattle.stream_catalog.proofs.CountLemmas.{bytes_eq-sym, times-append, times-none}

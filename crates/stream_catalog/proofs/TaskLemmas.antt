@@ -28,7 +28,7 @@ use Rattle.stream_catalog.specs.Streams.{template_put, life_set, first_name, fir
 use Rattle.stream_catalog.specs.Indices.{blocked_index, blocked_in, folded_index, downsample_refusal, downsampled, task_index, index_deleted}
 use Rattle.stream_catalog.specs.Moves.{moved_all}
 use Rattle.stream_catalog.specs.Puts.{put_into}
-use Rattle.stream_catalog.specs.Rounds.{Running, ends_at, extended, deleted, new_task, started, started_if_free, start_at, done_step, done_steps, steps_of, run_stream, run_streams, lifecycle_run}
+use Rattle.stream_catalog.specs.Runs.{Running, ends_at, extended, deleted, new_task, started, started_if_free, start_at, run_step, run_steps, stream_plan, run_stream, run_streams, lifecycle_run}
 use Rattle.stream_catalog.specs.Units.{swapped, next_done, advanced_at, unit_from, unit_of}
 use Rattle.stream_catalog.specs.Laws.{TakesRow, KeepsTasks, IsOneOf, TaskRowsStay}
 use Rattle.stream_catalog.specs.Sound.{times, IsTaskOf, IsSoundCatalog}
@@ -274,7 +274,7 @@ module _ (c : PlainCatalog) where
     tasks = each_end (IsOldOrNew c.tasks) r.catalog.tasks (new_task i by) keeps.tasks (inr refl);
   }
 
-  step_keeps : (members : List (List ℕ)) (r : Running) (step : Step) → RunKeeps c r.catalog → RunKeeps c (done_step members r step).catalog
+  step_keeps : (members : List (List ℕ)) (r : Running) (step : Step) → RunKeeps c r.catalog → RunKeeps c (run_step members r step).catalog
   step_keeps members r (Extend place end) keeps = by_found (slice_get members place)
     where
       by_found : (o : Option (List ℕ)) → RunKeeps c (with_found o r (λ n. extended r n end)).catalog
@@ -298,13 +298,13 @@ module _ (c : PlainCatalog) where
       by_found None = keeps
       by_found (Some n) = by_index (index_named n r.catalog.indices)
 
-  steps_keep : (members : List (List ℕ)) (r : Running) (steps : List Step) → RunKeeps c r.catalog → RunKeeps c (done_steps members r steps).catalog
+  steps_keep : (members : List (List ℕ)) (r : Running) (steps : List Step) → RunKeeps c r.catalog → RunKeeps c (run_steps members r steps).catalog
   steps_keep members r [] keeps = keeps
-  steps_keep members r (step ∷ steps) keeps = steps_keep members (done_step members r step) steps (step_keeps members r step keeps)
+  steps_keep members r (step ∷ steps) keeps = steps_keep members (run_step members r step) steps (step_keeps members r step keeps)
 
   streams_keep : (now : ℤ) (r : Running) (ss : List PlainStream) → RunKeeps c r.catalog → RunKeeps c (run_streams now r ss).catalog
   streams_keep now r [] keeps = keeps
-  streams_keep now r (s ∷ ss) keeps = streams_keep now (run_stream now r s) ss (steps_keep s.facts.members r (steps_of (facts_of r.catalog) s now) keeps)
+  streams_keep now r (s ∷ ss) keeps = streams_keep now (run_stream now r s) ss (steps_keep s.facts.members r (stream_plan (facts_of r.catalog) s now) keeps)
 
 run_keeps : (c : PlainCatalog) (now : ℤ) → RunKeeps c (lifecycle_run c now).catalog
 unfolding lifecycle_run

@@ -14,13 +14,13 @@ use Rattle.row_cells.specs.Joining.{IsIn, FieldsAgree}
 use Rattle.ts_mapping.specs.Agreeing.{kind_number, role_number, is_other_field}
 use Rattle.ts_mapping.specs.declared.templates.Template.{Template}
 use Rattle.ts_mapping.specs.Facts.{IsTemplate}
-use Rattle.stream_catalog.specs.declared.answers.CatalogError.{CatalogError}
-use Rattle.stream_catalog.specs.declared.answers.CatalogError.TheVariants.{ChangedField, Limit}
+use Rattle.stream_catalog.specs.declared.answers.Refusal.{Refusal}
+use Rattle.stream_catalog.specs.declared.answers.Refusal.TheVariants.{ChangedField, Limit}
 use Rattle.stream_catalog.specs.declared.answers.What.TheVariants.{Templates}
 use Rattle.stream_catalog.specs.declared.facts.HeldIndex.{HeldIndex}
 use Rattle.stream_catalog.specs.Plain.{facts_of}
 use Rattle.stream_catalog.specs.Lists.{when, inserted, without, template_name, template_named}
-use Rattle.stream_catalog.specs.Names.{most_templates}
+use Rattle.stream_catalog.specs.Limits.{most_templates}
 use Rattle.stream_catalog.specs.Streams.{maps_otherwise, changed_field}
 use Rattle.stream_catalog.specs.Laws.{TemplatesKeepSound}
 use Rattle.stream_catalog.specs.Sound.{times, IsThere, IsHeld, IsStream, form_of, template_form, Agrees}
@@ -126,7 +126,7 @@ templates_keep_sound c t is_template sound none =
     let ts = put_in f.templates t in
     let left = rest f.templates t in
     let new = record f { templates = ts } in
-    let limit : List (Option CatalogError) = when (not (is_some (template_named t.name f.templates)) && nat_le most_templates (length f.templates)) (Limit Templates) ∷ [] in
+    let limit : List (Option Refusal) = when (not (is_some (template_named t.name f.templates)) && nat_le most_templates (length f.templates)) (Limit Templates) ∷ [] in
     let first = none_first (changed_field t.name f.indices t.schema.fields) limit none in
     let second = none_first (when (not (is_some (template_named t.name f.templates)) && nat_le most_templates (length f.templates)) (Limit Templates)) [] first.1 in
     let agree = agrees_all t.name f.indices t.schema.fields first.0 in

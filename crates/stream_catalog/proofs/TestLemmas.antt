@@ -13,6 +13,7 @@ use Rattle.std.proofs.lemmas.Bool.{and_parts, both_ways, leb-true, le-leb, ltb-t
 use Rattle.std.proofs.lemmas.Slice.Eq.{bytes_eq-Decides}
 use Rattle.row_cells.specs.Dimensions.{IsBefore}
 use Rattle.row_cells.specs.Each.{Each}
+use Rattle.row_cells.specs.EachLaws.{Each-weaker}
 use Rattle.row_cells.specs.Joining.{IsIn, FieldsAgree}
 use Rattle.row_cells.specs.declared.schemas.Field.{Field}
 use Rattle.row_cells.specs.declared.schemas.Schema.{Schema}
@@ -23,17 +24,19 @@ use Rattle.downsample_fold.specs.Laws.{KeysAscend}
 use Rattle.edge_face.specs.Limits.{last_instant}
 use Rattle.index_names.specs.Backing.{greatest_generation}
 use Rattle.index_names.specs.Names.{is_stream_name, is_target_name, is_index_name}
+use Rattle.index_names.specs.Reading.{IsBackingName}
 use Rattle.lifecycle_swap.specs.Lifecycles.{is_lifecycle}
 use Rattle.lifecycle_swap.specs.declared.lifecycles.Lifecycle.{Lifecycle}
 use Rattle.ts_mapping.specs.Agreeing.{kind_number, role_number, is_alike, is_other_field}
-use Rattle.ts_mapping.specs.Facts.{IsMapping}
+use Rattle.ts_mapping.specs.Facts.{IsMapping, IsTemplate}
 use Rattle.stream_catalog.specs.declared.facts.HeldIndex.{HeldIndex}
-use Rattle.stream_catalog.specs.Plain.{PlainIndex, PlainStream, PlainFacts}
+use Rattle.stream_catalog.specs.Plain.{PlainIndex, PlainStream, PlainCatalog, PlainFacts}
 use Rattle.stream_catalog.specs.Lists.{template_name, stream_name, facts_name, template_named, facts_named}
-use Rattle.stream_catalog.specs.Names.{names_of, most_templates, most_streams, most_indices}
-use Rattle.stream_catalog.specs.WellNamed.{IsOrigin, IsTemplateNamed, IsStreamNamed, IsIndexNamed, IsTaskNamed}
-use Rattle.stream_catalog.specs.Sound.{IsKind, IsThere, IsHeld, IsMemberOf, EndsBefore, WindowsFollow, IsLife, IsStream, KeepsMark, IsTaskOf, times, AreOnce, Form, form_of, template_form, Agrees, AllAgree}
-use Rattle.stream_catalog.specs.FactTests.{is_instant, is_kind, is_held, is_member_of, ends_before, windows_follow, is_life, is_stream, is_same, keeps_mark, is_task_of, fields_agree, agrees, all_agree, keys_ascend, are_once, are_each_sound, do_forms_agree, do_lists_ascend, are_names_once}
+use Rattle.stream_catalog.specs.Limits.{most_templates, most_streams, most_indices}
+use Rattle.stream_catalog.specs.Names.{names_of}
+use Rattle.stream_catalog.specs.WellNamed.{IsTemplateNamed, IsStreamNamed, IsIndexNamed, IsTaskNamed, IsWellNamed}
+use Rattle.stream_catalog.specs.Sound.{IsKind, IsThere, IsHeld, IsMemberOf, EndsBefore, WindowsFollow, IsLife, IsStream, KeepsMark, IsTaskOf, times, AreOnce, Form, form_of, template_form, Agrees, AllAgree, AreFactsSound}
+use Rattle.stream_catalog.specs.FactTests.{is_instant, is_kind, is_held, is_member_of, ends_before, windows_follow, is_life, is_stream, is_same, keeps_mark, is_task_of, fields_agree, agrees, all_agree, keys_ascend, are_once, are_each_sound, do_forms_agree, do_lists_ascend, are_names_once, are_facts_sound, are_well_named}
 use Rattle.stream_catalog.specs.Laws.{FactsAreTested, NamesAreTested}
 use Rattle.stream_catalog.proofs.CountLemmas.{bytes_eq-itself}
 use Rattle.stream_catalog.proofs.TemplateLemmas.{same_field}
@@ -228,8 +231,8 @@ once_tells (m ∷ ms) = (λ is n. by_test n (bytes_eq m n) refl (and_parts (time
 
 -- ---- all facts
 
-pub facts_are_tested : FactsAreTested
-facts_are_tested f templates mapped =
+facts_tell : (f : PlainFacts) → Each IsTemplate f.templates → Each (λ i. IsMapping i.mapping) f.indices → Decides (are_facts_sound f) (AreFactsSound f)
+facts_tell f templates mapped =
     let indices = map form_of f.indices in
     let each = and_tells (list_all (is_held f) f.indices) _ (each_held f f.indices mapped) (and_tells (list_all (is_stream f) f.streams) _ (each_tells (is_stream f) (IsStream f) (stream_tells f) f.streams)
     (each_tells (λ t. is_task_of t.by t.rises (facts_named t.index f.indices)) (λ t. IsTaskOf t.by t.rises (facts_named t.index f.indices)) (λ t. task_tells t.by t.rises (facts_named t.index f.indices)) f.tasks)) in
@@ -269,17 +272,33 @@ facts_are_tested f templates mapped =
       ),
     )
 
+pub facts_are_tested : FactsAreTested
+facts_are_tested f = (
+  (λ is. (facts_tell f is.0 is.1).0 is.2),
+  (λ sound.
+      let mapped = Each-weaker (IsHeld f) (λ i. IsMapping i.mapping) (λ i held. held.mapping) f.indices sound.indices in
+      (sound.templates, mapped, (facts_tell f sound.templates mapped).1 sound)),
+)
+
 -- ---- names
 
-index_names_tell : (is : List PlainIndex) → Each (λ i. IsOrigin i.facts.origin) is → Decides (list_all (λ i. is_index_name i.facts.name) is) (Each IsIndexNamed is)
+index_names_tell : (is : List PlainIndex) → Each (λ i. IsBackingName i.facts.origin) is → Decides (list_all (λ i. is_index_name i.facts.name) is) (Each IsIndexNamed is)
 index_names_tell [] origins = (λ is. tt, λ is. refl)
 index_names_tell (i ∷ is) origins =
     and_tells (is_index_name i.facts.name) (list_all (λ k. is_index_name k.facts.name) is) (λ named. (named, origins.0), λ named. named.0) (index_names_tell is origins.1)
 
-pub names_are_tested : NamesAreTested
-names_are_tested c origins =
+names_tell : (c : PlainCatalog) → Each (λ i. IsBackingName i.facts.origin) c.indices → Decides (are_well_named c) (IsWellNamed c)
+names_tell c origins =
     let tells = and_tells (list_all (λ t. is_stream_name (template_name t)) c.templates) _ (each_tells (λ t. is_stream_name (template_name t)) IsTemplateNamed (λ t. own_tells (is_stream_name t.name)) c.templates)
     (and_tells (list_all (λ s. is_stream_name (stream_name s)) c.streams) _ (each_tells (λ s. is_stream_name (stream_name s)) IsStreamNamed (λ s. own_tells (is_stream_name s.facts.name)) c.streams)
     (and_tells (list_all (λ i. is_index_name i.facts.name) c.indices) _ (index_names_tell c.indices origins)
     (each_tells (λ t. is_target_name t.target) IsTaskNamed (λ t. own_tells (is_target_name t.target)) c.tasks))) in
     (λ is. let p = tells.0 is in record { templates = p.0; streams = p.1.0; indices = p.1.1.0; tasks = p.1.1.1 }, λ is. tells.1 (is.templates, (is.streams, (is.indices, is.tasks))))
+
+pub names_are_tested : NamesAreTested
+names_are_tested c = (
+  (λ is. (names_tell c is.0).0 is.1),
+  (λ named.
+      let origins = Each-weaker IsIndexNamed (λ i. IsBackingName i.facts.origin) (λ i one. one.1) c.indices named.indices in
+      (origins, (names_tell c origins).1 named)),
+)

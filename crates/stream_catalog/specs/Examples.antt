@@ -21,8 +21,8 @@ use Rattle.downsample_fold.specs.Direct.{down}
 use Rattle.lifecycle_swap.specs.declared.lifecycles.Lifecycle.{Lifecycle}
 use Rattle.ts_mapping.specs.declared.templates.Mapping.{Mapping}
 use Rattle.ts_mapping.specs.declared.templates.Template.{Template}
-use Rattle.stream_catalog.specs.declared.answers.CatalogError.{CatalogError}
-use Rattle.stream_catalog.specs.declared.answers.CatalogError.TheVariants.{NoSuchName, NameTaken, NoTemplate, Reserved, IsWriteIndex, NotBlocked, NotMember, IsMember, OtherMapping, BadWindow, Limit, TimeOver, ChangedField}
+use Rattle.stream_catalog.specs.declared.answers.Refusal.{Refusal}
+use Rattle.stream_catalog.specs.declared.answers.Refusal.TheVariants.{NoSuchName, NameTaken, NoTemplate, Reserved, IsWriteIndex, NotBlocked, NotMember, IsMember, OtherMapping, BadWindow, Limit, TimeOver, ChangedField}
 use Rattle.stream_catalog.specs.declared.answers.What.TheVariants.{Templates, Streams, Indices, Generations}
 use Rattle.stream_catalog.specs.declared.answers.PickError.TheVariants.{NoWindow, Blocked}
 use Rattle.stream_catalog.specs.declared.answers.Move.TheVariants.{Remove, Add}
@@ -32,11 +32,12 @@ use Rattle.stream_catalog.specs.Plain.{PlainStream, PlainCatalog, PlainFacts, fa
 use Rattle.stream_catalog.specs.Ways.{plain_way, seen_way, see_catalog, kept_rows}
 use Rattle.stream_catalog.specs.Indices.{block_refusal, downsample_refusal, folded_mapping, downsampled, delete_refusal, index_deleted}
 use Rattle.stream_catalog.specs.FactTests.{are_facts_sound}
-use Rattle.stream_catalog.specs.Lists.{when, first_of, template_name, template_named}
-use Rattle.stream_catalog.specs.Names.{most_templates, most_streams, most_indices, is_taken, template_for}
+use Rattle.stream_catalog.specs.Lists.{when, first_refusal, template_name, template_named}
+use Rattle.stream_catalog.specs.Limits.{most_templates, most_streams, most_indices}
+use Rattle.stream_catalog.specs.Names.{is_taken, template_for}
 use Rattle.stream_catalog.specs.Moves.{moves_refusal, moved_all}
 use Rattle.stream_catalog.specs.Puts.{put_into, picked_by}
-use Rattle.stream_catalog.specs.Rounds.{lifecycle_run}
+use Rattle.stream_catalog.specs.Runs.{lifecycle_run}
 use Rattle.stream_catalog.specs.Streams.{template_refusal, create_refusal, first_name, created, named_refusal, stream_deleted, rollover_refusal, next_name, rolled_over}
 use Rattle.stream_catalog.specs.Units.{unit_of}
 
@@ -425,7 +426,7 @@ chosen_matching = refl
 
 -- ---- each refusal of a new stream, in order; where two hold the first one is told
 
-abbrev at_present : PlainFacts → List ℕ → Option CatalogError
+abbrev at_present : PlainFacts → List ℕ → Option Refusal
 at_present f name = create_refusal f name (pos 15000)
 
 pub create_taken : at_present (facts_of (two false None [])) (codes "s") ≡ Some (NameTaken (codes "s"))
@@ -471,7 +472,7 @@ rolling end generation is = record (facts_of (two false None [])) {
   indices = record new_facts { end = end } ∷ is;
 }
 
-abbrev roll : PlainFacts → Option CatalogError
+abbrev roll : PlainFacts → Option Refusal
 roll f = rollover_refusal f (codes "s") (pos 15000)
 
 pub roll_nowhere : rollover_refusal (facts_of (two false None [])) (codes "b") (pos 15000) ≡ Some (NoSuchName (codes "b"))
@@ -507,7 +508,7 @@ beside template start end = record (facts_of (two true None [])) {
       ∷ record (old_facts false) { name = codes "w"; template = codes "u" } ∷ [];
 }
 
-abbrev add : List ℕ → List ℕ → PlainFacts → Option CatalogError
+abbrev add : List ℕ → List ℕ → PlainFacts → Option Refusal
 add stream index f = moves_refusal f (Add stream index ∷ [])
 
 pub add_nowhere : add (codes "x") (codes "y") (beside (codes "t") (pos 20000) (pos 30000)) ≡ Some (NoSuchName (codes "x"))
@@ -570,7 +571,7 @@ pub put_many : (ts : List Template) → option_map template_name (template_named
     template_refusal (record (facts_of streamless) { templates = ts }) (remapped (codes "u") schema) ≡ Some (Limit Templates)
 put_many ts none full = by_found (template_named (codes "u") ts) none
   where
-    by_found : (o : Option Template) → option_map template_name o ≡ None → first_of (when (not (is_some o) && nat_le most_templates (length ts)) (Limit Templates) ∷ []) ≡ Some (Limit Templates)
+    by_found : (o : Option Template) → option_map template_name o ≡ None → first_refusal (when (not (is_some o) && nat_le most_templates (length ts)) (Limit Templates) ∷ []) ≡ Some (Limit Templates)
     by_found None none = rw full refl
     by_found (Some t) none = cc
 

@@ -1,5 +1,5 @@
--- Tests that tell which facts are sound, but for templates and mappings, which have tests of their own; and which names are well
--- formed, but for the origins of indices.
+-- Tests that tell which facts are sound, next to those of templates and mappings, which ts_mapping has; and which names are well
+-- formed, next to that of origins, which index_names has.
 use Rattle.std.specs.Prelude.{ℕ, ℤ, pos, int_le, int_lt, nat_le, nat_lt, ◌==◌, Bool, true, false, not, ◌&&◌, ◌||◌, List, [], ◌∷◌, map, length, bytes_eq, Option, Some, None}
 use Rattle.std.specs.List.{list_all, flat_map}
 use Rattle.std.specs.Option.{is_some, is_none}
@@ -18,7 +18,8 @@ use Rattle.ts_mapping.specs.Agreeing.{is_other_field}
 use Rattle.stream_catalog.specs.declared.facts.HeldIndex.{HeldIndex}
 use Rattle.stream_catalog.specs.Plain.{PlainStream, PlainCatalog, PlainFacts}
 use Rattle.stream_catalog.specs.Lists.{template_name, stream_name, facts_name, template_named, facts_named}
-use Rattle.stream_catalog.specs.Names.{names_of, most_templates, most_streams, most_indices}
+use Rattle.stream_catalog.specs.Limits.{most_templates, most_streams, most_indices}
+use Rattle.stream_catalog.specs.Names.{names_of}
 use Rattle.stream_catalog.specs.Sound.{times, Form, form_of, template_form}
 
 abbrev pub is_instant : ℤ → Bool

@@ -5,20 +5,21 @@ use Rattle.time_text.specs.declared.intervals.Interval.{Interval}
 use Rattle.downsample_fold.specs.Intervals.{interval_fault}
 use Rattle.index_names.specs.Backing.{is_reserved}
 use Rattle.ts_mapping.specs.declared.templates.Mapping.{Mapping}
-use Rattle.stream_catalog.specs.declared.answers.CatalogError.{CatalogError}
-use Rattle.stream_catalog.specs.declared.answers.CatalogError.TheVariants.{NoSuchName, NameTaken, Reserved, IsWriteIndex, NotBlocked, Interval as BadInterval, Limit}
+use Rattle.stream_catalog.specs.declared.answers.Refusal.{Refusal}
+use Rattle.stream_catalog.specs.declared.answers.Refusal.TheVariants.{NoSuchName, NameTaken, Reserved, IsWriteIndex, NotBlocked, Interval as BadInterval, Limit}
 use Rattle.stream_catalog.specs.declared.answers.What.TheVariants.{Indices}
 use Rattle.stream_catalog.specs.declared.facts.HeldIndex.{HeldIndex}
 use Rattle.stream_catalog.specs.declared.facts.TaskFacts.{TaskFacts}
 use Rattle.stream_catalog.specs.Plain.{PlainIndex, PlainStream, PlainCatalog, PlainFacts}
 use Rattle.stream_catalog.specs.Ways.{Way}
-use Rattle.stream_catalog.specs.Lists.{when, on_found, with_found, first_of, updated, inserted, without, index_name, facts_named, index_named}
-use Rattle.stream_catalog.specs.Names.{most_indices, is_taken}
+use Rattle.stream_catalog.specs.Lists.{when, on_found, with_found, first_refusal, updated, inserted, without, index_name, facts_named, index_named}
+use Rattle.stream_catalog.specs.Limits.{most_indices}
+use Rattle.stream_catalog.specs.Names.{is_taken}
 use Rattle.stream_catalog.specs.Streams.{written_by}
 
 -- ---- an index takes no documents any more, also where it took none
 
-abbrev pub block_refusal : PlainFacts → List ℕ → Option CatalogError
+abbrev pub block_refusal : PlainFacts → List ℕ → Option Refusal
 block_refusal f n = on_found (facts_named n f.indices) (NoSuchName n) (λ i. None)
 
 abbrev pub blocked_index : PlainIndex → PlainIndex
@@ -30,11 +31,11 @@ blocked_in c n = record c { indices = updated index_name n blocked_index c.indic
 -- ---- a fold of an index
 
 -- a stream's write index is neither folded nor deleted
-abbrev pub write_fault : PlainFacts → List ℕ → Option CatalogError
+abbrev pub write_fault : PlainFacts → List ℕ → Option Refusal
 write_fault f n = option_map (λ s. IsWriteIndex s.facts.name n) (written_by f n)
 
-abbrev pub downsample_refusal : PlainFacts → List ℕ → List ℕ → Interval → Option CatalogError
-downsample_refusal f source target by = on_found (facts_named source f.indices) (NoSuchName source) (λ i. first_of (
+abbrev pub downsample_refusal : PlainFacts → List ℕ → List ℕ → Interval → Option Refusal
+downsample_refusal f source target by = on_found (facts_named source f.indices) (NoSuchName source) (λ i. first_refusal (
     when (is_taken target f) (NameTaken target)
     ∷ when (is_reserved target) Reserved
     ∷ write_fault f source
@@ -64,7 +65,7 @@ downsampled way c source target by = with_found (index_named source c.indices) c
 
 -- ---- an index that goes, with its task
 
-abbrev pub delete_refusal : PlainFacts → List ℕ → Option CatalogError
+abbrev pub delete_refusal : PlainFacts → List ℕ → Option Refusal
 delete_refusal f n = on_found (facts_named n f.indices) (NoSuchName n) (λ i. write_fault f n)
 
 abbrev pub without_member : List ℕ → PlainStream → PlainStream

@@ -15,6 +15,7 @@ use Rattle.downsample_fold.specs.Laws.{series_of}
 use Rattle.downsample_fold.specs.Places.{rows_of}
 use Rattle.index_names.specs.Backing.{downsample_name}
 use Rattle.index_names.specs.Names.{is_stream_name, is_target_name}
+use Rattle.index_names.specs.Reading.{IsBackingName}
 use Rattle.lifecycle_swap.specs.Lifecycles.{IsLifecycle}
 use Rattle.lifecycle_swap.specs.declared.lifecycles.Lifecycle.{Lifecycle}
 use Rattle.ts_mapping.specs.Facts.{IsMapping, IsTemplate}
@@ -24,14 +25,15 @@ use Rattle.stream_catalog.specs.declared.answers.Move.TheVariants.{Remove}
 use Rattle.stream_catalog.specs.declared.facts.TaskFacts.{TaskFacts}
 use Rattle.stream_catalog.specs.Plain.{PlainIndex, PlainStream, PlainCatalog, PlainFacts, facts_of}
 use Rattle.stream_catalog.specs.Ways.{Way, plain_way, seen_way, see_index, see_catalog, task_schema, kept_rows}
+use Rattle.stream_catalog.specs.Limits.{longest_fold_name}
 use Rattle.stream_catalog.specs.Lists.{stream_named, index_named}
 use Rattle.stream_catalog.specs.Streams.{template_refusal, template_put, create_refusal, created, stream_deleted, life_set, write_name, next_name, rollover_refusal, rolled_over}
 use Rattle.stream_catalog.specs.Indices.{task_index, folded_index, blocked_in, delete_refusal, downsample_refusal, downsampled, index_deleted}
 use Rattle.stream_catalog.specs.Moves.{moves_refusal, moved_by, moved_all}
 use Rattle.stream_catalog.specs.Puts.{MayPut, put_into}
-use Rattle.stream_catalog.specs.Rounds.{Running, lifecycle_run}
+use Rattle.stream_catalog.specs.Runs.{Running, lifecycle_run}
 use Rattle.stream_catalog.specs.Units.{with_renamed, unit_of}
-use Rattle.stream_catalog.specs.WellNamed.{IsOrigin, IsWellNamed}
+use Rattle.stream_catalog.specs.WellNamed.{IsWellNamed}
 use Rattle.stream_catalog.specs.FactTests.{are_facts_sound, are_well_named}
 use Rattle.stream_catalog.specs.Sound.{AreFactsSound, times, IsHeld, IsIndexSound, IsSoundCatalog, IsSeenCatalog}
 
@@ -228,8 +230,8 @@ pub record NamesKeep : Type 0 where
   pub moves : (c : PlainCatalog) (moves : List Move) → IsWellNamed c → IsWellNamed (moved_all c moves)
   pub units : (way : Way) (c : PlainCatalog) → IsWellNamed c → IsWellNamed (unit_of way c)
   pub runs : (c : PlainCatalog) (now : ℤ) → IsWellNamed c → IsWellNamed (lifecycle_run c now).catalog
-  -- what a lifecycle folds to has the name of a target, of 151 bytes at most
-  pub folds : (by : Interval) (origin : List ℕ) → IsOrigin origin → IsTrue (is_target_name (downsample_name by origin)) × (length (downsample_name by origin) ≤ 151)
+  -- what a lifecycle folds to has the name of a target, which isn't long
+  pub folds : (by : Interval) (origin : List ℕ) → IsBackingName origin → IsTrue (is_target_name (downsample_name by origin)) × (length (downsample_name by origin) ≤ longest_fold_name)
 
 -- ---- sound catalogues stay sound
 
@@ -272,13 +274,14 @@ RunsKeepSound = (c : PlainCatalog) (now : ℤ) → IsSoundCatalog c → IsSoundC
 
 -- ---- tests
 
--- what is sound is told by tests: those of templates and mappings, which may be made before, and one of all else
+-- Which facts are sound is decided one by one: each template and each mapping by the call that ts_mapping has for it (is_template,
+-- is_mapping), and all else by one test.
 abbrev pub FactsAreTested : Type 0
-FactsAreTested = (f : PlainFacts) → Each IsTemplate f.templates → Each (λ i. IsMapping i.mapping) f.indices → IsTrue (are_facts_sound f) ↔ AreFactsSound f
+FactsAreTested = (f : PlainFacts) → (Each IsTemplate f.templates × Each (λ i. IsMapping i.mapping) f.indices × IsTrue (are_facts_sound f)) ↔ AreFactsSound f
 
--- so with names, where the origins of indices are known to be names of backing indices
+-- So are names: each origin of an index by the call that index_names has for it (is_backing_name), and all else by one test.
 abbrev pub NamesAreTested : Type 0
-NamesAreTested = (c : PlainCatalog) → Each (λ i. IsOrigin i.facts.origin) c.indices → IsTrue (are_well_named c) ↔ IsWellNamed c
+NamesAreTested = (c : PlainCatalog) → (Each (λ i. IsBackingName i.facts.origin) c.indices × IsTrue (are_well_named c)) ↔ IsWellNamed c
 
 -- ---- what the code keeps
 

@@ -2,11 +2,12 @@ pub mod Plain
 pub mod Ways
 pub mod WellNamed
 pub mod Lists
+pub mod Limits
 pub mod Names
 pub mod Streams
 pub mod Indices
 pub mod Moves
-pub mod Rounds
+pub mod Runs
 pub mod Puts
 pub mod Units
 pub mod Sound

@@ -3,6 +3,7 @@ use Rattle.std.specs.Prelude.{ℕ, Bool, true, false, not, List, [], ◌∷◌, 
 use Rattle.std.specs.Ordering.{is_le, nat_cmp}
 use Rattle.std.specs.Cmp.Lexicographic.{slice_cmp}
 use Rattle.stream_catalog.specs.Plain.{PlainIndex, PlainStream}
+use Rattle.stream_catalog.specs.declared.answers.Refusal.{Refusal}
 use Rattle.stream_catalog.specs.declared.facts.HeldIndex.{HeldIndex}
 use Rattle.ts_mapping.specs.declared.templates.Template.{Template}
 
@@ -22,18 +23,18 @@ abbrev pub with_found : {A B : Type 0} → Option A → B → (A → B) → B
 with_found None b f = b
 with_found (Some a) b f = f a
 
--- the first that is there
-abbrev pub first_of : {A : Type 0} → List (Option A) → Option A
-first_of [] = None
-first_of (Some a ∷ rest) = Some a
-first_of (None ∷ rest) = first_of rest
+-- of tests in their order the first that refuses
+abbrev pub first_refusal : List (Option Refusal) → Option Refusal
+first_refusal [] = None
+first_refusal (Some refusal ∷ rest) = Some refusal
+first_refusal (None ∷ rest) = first_refusal rest
 
 -- ---- by name
 
 -- the first of a name
-abbrev pub named : {A : Type 0} → (A → List ℕ) → List ℕ → List A → Option A
-named name n [] = None
-named name n (x ∷ xs) = if bytes_eq (name x) n then Some x else named name n xs
+abbrev pub found_by : {A : Type 0} → (A → List ℕ) → List ℕ → List A → Option A
+found_by name n [] = None
+found_by name n (x ∷ xs) = if bytes_eq (name x) n then Some x else found_by name n xs
 
 -- the first of a name changed
 abbrev pub updated : {A : Type 0} → (A → List ℕ) → List ℕ → (A → A) → List A → List A
@@ -64,13 +65,13 @@ abbrev pub index_name : PlainIndex → List ℕ
 index_name i = i.facts.name
 
 abbrev pub template_named : List ℕ → List Template → Option Template
-template_named = named template_name
+template_named = found_by template_name
 
 abbrev pub stream_named : List ℕ → List PlainStream → Option PlainStream
-stream_named = named stream_name
+stream_named = found_by stream_name
 
 abbrev pub facts_named : List ℕ → List HeldIndex → Option HeldIndex
-facts_named = named facts_name
+facts_named = found_by facts_name
 
 abbrev pub index_named : List ℕ → List PlainIndex → Option PlainIndex
-index_named = named index_name
+index_named = found_by index_name

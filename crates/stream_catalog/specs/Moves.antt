@@ -2,13 +2,13 @@
 use Rattle.std.specs.Prelude.{ℕ, Bool, false, not, ◌&&◌, ◌||◌, int_lt, List, [], ◌∷◌, bytes_eq, Option, None, if◌then◌else◌}
 use Rattle.std.specs.List.{list_any, find}
 use Rattle.std.specs.Option.{option_map, option_or}
-use Rattle.stream_catalog.specs.declared.answers.CatalogError.{CatalogError}
-use Rattle.stream_catalog.specs.declared.answers.CatalogError.TheVariants.{NoSuchName, IsWriteIndex, NotMember, IsMember, OtherMapping, BadWindow}
+use Rattle.stream_catalog.specs.declared.answers.Refusal.{Refusal}
+use Rattle.stream_catalog.specs.declared.answers.Refusal.TheVariants.{NoSuchName, IsWriteIndex, NotMember, IsMember, OtherMapping, BadWindow}
 use Rattle.stream_catalog.specs.declared.answers.Move.{Move}
 use Rattle.stream_catalog.specs.declared.answers.Move.TheVariants.{Remove, Add}
 use Rattle.stream_catalog.specs.declared.facts.HeldIndex.{HeldIndex}
 use Rattle.stream_catalog.specs.Plain.{PlainStream, PlainCatalog, PlainFacts, facts_of}
-use Rattle.stream_catalog.specs.Lists.{when, on_found, with_found, first_of, updated, without, stream_name, stream_named, facts_named}
+use Rattle.stream_catalog.specs.Lists.{when, on_found, with_found, first_refusal, updated, without, stream_name, stream_named, facts_named}
 use Rattle.stream_catalog.specs.Streams.{has_member, is_write, write_name}
 use Rattle.stream_catalog.specs.Indices.{without_member, task_index}
 
@@ -31,8 +31,8 @@ is_bad_window is i s = list_any (meets_member is i) s.facts.members || ends_late
 
 -- ---- what refuses a move
 
-abbrev pub remove_refusal : PlainFacts → List ℕ → List ℕ → Option CatalogError
-remove_refusal f stream index = on_found (stream_named stream f.streams) (NoSuchName stream) (λ s. first_of (
+abbrev pub remove_refusal : PlainFacts → List ℕ → List ℕ → Option Refusal
+remove_refusal f stream index = on_found (stream_named stream f.streams) (NoSuchName stream) (λ s. first_refusal (
     when (not (has_member s index)) (NotMember stream index)
     ∷ when (is_write s index) (IsWriteIndex stream index) ∷ []))
 
@@ -40,15 +40,15 @@ remove_refusal f stream index = on_found (stream_named stream f.streams) (NoSuch
 abbrev pub stream_of : PlainFacts → List ℕ → Option PlainStream
 stream_of f n = find (λ s. has_member s n) f.streams
 
-abbrev pub add_refusal : PlainFacts → List ℕ → List ℕ → Option CatalogError
+abbrev pub add_refusal : PlainFacts → List ℕ → List ℕ → Option Refusal
 add_refusal f stream index =
     on_found (stream_named stream f.streams) (NoSuchName stream) (λ s.
-    on_found (facts_named index f.indices) (NoSuchName index) (λ i. first_of (
+    on_found (facts_named index f.indices) (NoSuchName index) (λ i. first_refusal (
     option_map (λ other. IsMember other.facts.name index) (stream_of f index)
     ∷ when (not (bytes_eq i.template s.facts.template)) (OtherMapping stream index)
     ∷ when (is_bad_window f.indices i s) (BadWindow stream index) ∷ [])))
 
-abbrev pub move_refusal : PlainFacts → Move → Option CatalogError
+abbrev pub move_refusal : PlainFacts → Move → Option Refusal
 move_refusal f (Remove stream index) = remove_refusal f stream index
 move_refusal f (Add stream index) = add_refusal f stream index
 
@@ -77,7 +77,7 @@ moved f (Add stream index) = added_member f stream index
 -- ---- many moves, each after those before it
 
 -- the first refusal
-abbrev pub moves_refusal : PlainFacts → List Move → Option CatalogError
+abbrev pub moves_refusal : PlainFacts → List Move → Option Refusal
 moves_refusal f [] = None
 moves_refusal f (m ∷ ms) = option_or (move_refusal f m) (moves_refusal (moved f m) ms)
 

@@ -1,4 +1,4 @@
--- Which names are taken, and how many there may be of everything.
+-- Which names are taken, and which template a name takes.
 use Rattle.std.specs.Prelude.{ℕ, Bool, ◌||◌, ◌&&◌, nat_lt, nat_eq, List, [], ◌∷◌, ◌++◌, map, bytes_eq, Option, Some, None, if◌then◌else◌}
 use Rattle.std.specs.List.{list_any}
 use Rattle.std.specs.Ordering.{is_le, nat_cmp}
@@ -6,17 +6,6 @@ use Rattle.std.specs.Cmp.Lexicographic.{slice_cmp}
 use Rattle.index_names.specs.Patterns.{pattern_takes}
 use Rattle.ts_mapping.specs.declared.templates.Template.{Template}
 use Rattle.stream_catalog.specs.Plain.{PlainFacts}
-
--- ---- limits
-
-abbrev pub most_templates : ℕ
-most_templates = 1_000
-
-abbrev pub most_streams : ℕ
-most_streams = 1_000
-
-abbrev pub most_indices : ℕ
-most_indices = 10_000
 
 -- ---- names that are taken
 

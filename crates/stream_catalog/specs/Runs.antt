@@ -39,8 +39,8 @@ facts_from f s place (m ∷ ms) =
     with_found (facts_named m f.indices) (facts_from f s (place + 1) ms) (λ i. member_facts f s place i ∷ facts_from f s (place + 1) ms)
 
 -- the steps that the present asks of a stream; windows reach as far ahead as its template looks now
-abbrev pub steps_of : PlainFacts → PlainStream → ℤ → List Step
-steps_of f s now = with_found (template_named s.facts.template f.templates) [] (λ t. plan_of now t.look_ahead s.life (facts_from f s 0 s.facts.members))
+abbrev pub stream_plan : PlainFacts → PlainStream → ℤ → List Step
+stream_plan f s now = with_found (template_named s.facts.template f.templates) [] (λ t. plan_of now t.look_ahead s.life (facts_from f s 0 s.facts.members))
 
 -- ---- each step
 
@@ -77,19 +77,19 @@ abbrev pub start_at : Running → List ℕ → Interval → Running
 start_at r n by = with_found (index_named n r.catalog.indices) r (λ i. started_if_free r i by)
 
 -- a step names a member by its place
-abbrev pub done_step : List (List ℕ) → Running → Step → Running
-done_step members r (Extend place end) = with_found (slice_get members place) r (λ n. extended r n end)
-done_step members r (Delete place) = with_found (slice_get members place) r (λ n. deleted r n)
-done_step members r (Start place by) = with_found (slice_get members place) r (λ n. start_at r n by)
+abbrev pub run_step : List (List ℕ) → Running → Step → Running
+run_step members r (Extend place end) = with_found (slice_get members place) r (λ n. extended r n end)
+run_step members r (Delete place) = with_found (slice_get members place) r (λ n. deleted r n)
+run_step members r (Start place by) = with_found (slice_get members place) r (λ n. start_at r n by)
 
-abbrev pub done_steps : List (List ℕ) → Running → List Step → Running
-done_steps members r [] = r
-done_steps members r (step ∷ steps) = done_steps members (done_step members r step) steps
+abbrev pub run_steps : List (List ℕ) → Running → List Step → Running
+run_steps members r [] = r
+run_steps members r (step ∷ steps) = run_steps members (run_step members r step) steps
 
 -- ---- all streams, by their names
 
 abbrev pub run_stream : ℤ → Running → PlainStream → Running
-run_stream now r s = done_steps s.facts.members r (steps_of (facts_of r.catalog) s now)
+run_stream now r s = run_steps s.facts.members r (stream_plan (facts_of r.catalog) s now)
 
 abbrev pub run_streams : ℤ → Running → List PlainStream → Running
 run_streams now r [] = r

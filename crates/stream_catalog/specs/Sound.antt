@@ -26,7 +26,8 @@ use Rattle.stream_catalog.specs.declared.facts.HeldIndex.{HeldIndex}
 use Rattle.stream_catalog.specs.Plain.{PlainIndex, PlainStream, PlainCatalog, PlainFacts, facts_of}
 use Rattle.stream_catalog.specs.Ways.{see_catalog}
 use Rattle.stream_catalog.specs.Lists.{template_name, stream_name, facts_name, template_named, facts_named, index_named}
-use Rattle.stream_catalog.specs.Names.{names_of, most_templates, most_streams, most_indices}
+use Rattle.stream_catalog.specs.Limits.{most_templates, most_streams, most_indices}
+use Rattle.stream_catalog.specs.Names.{names_of}
 
 -- ---- the rows of an index
 

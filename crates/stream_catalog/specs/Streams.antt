@@ -13,18 +13,21 @@ use Rattle.lifecycle_swap.specs.Ends.{end_after}
 use Rattle.edge_face.specs.Limits.{last_instant}
 use Rattle.lifecycle_swap.specs.declared.lifecycles.Lifecycle.{Lifecycle}
 use Rattle.stream_catalog.specs.declared.answers.CatalogError.{CatalogError}
-use Rattle.stream_catalog.specs.declared.answers.CatalogError.TheVariants.{NoSuchName, NameTaken, NoTemplate, Reserved, Limit, TimeOver, ChangedField, NoMemory}
+use Rattle.stream_catalog.specs.declared.answers.CatalogError.TheVariants.{Refused, NoMemory}
+use Rattle.stream_catalog.specs.declared.answers.Refusal.{Refusal}
+use Rattle.stream_catalog.specs.declared.answers.Refusal.TheVariants.{NoSuchName, NameTaken, NoTemplate, Reserved, Limit, TimeOver, ChangedField}
 use Rattle.stream_catalog.specs.declared.answers.What.TheVariants.{Templates, Streams, Indices, Generations}
 use Rattle.stream_catalog.specs.declared.answers.Rolled.{Rolled}
 use Rattle.stream_catalog.specs.declared.facts.HeldIndex.{HeldIndex}
 use Rattle.stream_catalog.specs.Plain.{PlainIndex, PlainStream, PlainCatalog, PlainFacts}
-use Rattle.stream_catalog.specs.Lists.{when, on_found, with_found, first_of, updated, inserted, without, template_name, stream_name, index_name, template_named, stream_named, facts_named, index_named}
-use Rattle.stream_catalog.specs.Names.{most_templates, most_streams, most_indices, is_taken, template_for}
+use Rattle.stream_catalog.specs.Lists.{when, on_found, with_found, first_refusal, updated, inserted, without, template_name, stream_name, index_name, template_named, stream_named, facts_named, index_named}
+use Rattle.stream_catalog.specs.Limits.{most_templates, most_streams, most_indices}
+use Rattle.stream_catalog.specs.Names.{is_taken, template_for}
 
 -- why a call refused: its refusal, or want of memory, which may come at any time
-abbrev pub IsCause : Option CatalogError → CatalogError → Type 0
+abbrev pub IsCause : Option Refusal → CatalogError → Type 0
+IsCause refusal (Refused r) = refusal ≡ Some r
 IsCause refusal NoMemory = Unit {0}
-IsCause refusal e = refusal ≡ Some e
 
 -- ---- a template
 
@@ -33,13 +36,13 @@ abbrev pub maps_otherwise : List ℕ → Field → HeldIndex → Bool
 maps_otherwise template f i = bytes_eq i.template template && list_any (is_other_field f) i.mapping.schema.fields
 
 -- the first field, which has the least path, that an index maps in another way, and the first such index
-abbrev pub changed_field : List ℕ → List HeldIndex → List Field → Option CatalogError
+abbrev pub changed_field : List ℕ → List HeldIndex → List Field → Option Refusal
 changed_field template is [] = None
 changed_field template is (f ∷ fs) =
     option_or (option_map (λ i. ChangedField f.path i.name) (find (maps_otherwise template f) is)) (changed_field template is fs)
 
-abbrev pub template_refusal : PlainFacts → Template → Option CatalogError
-template_refusal f t = first_of (
+abbrev pub template_refusal : PlainFacts → Template → Option Refusal
+template_refusal f t = first_refusal (
     changed_field t.name f.indices t.schema.fields
     ∷ when (not (is_some (template_named t.name f.templates)) && nat_le most_templates (length f.templates)) (Limit Templates) ∷ [])
 
@@ -72,8 +75,8 @@ first_start now t = int_max (pos 0) (now -ℤ t.look_back)
 abbrev pub first_name : List ℕ → ℤ → List ℕ
 first_name name now = backing_name name now 1
 
-abbrev pub create_refusal : PlainFacts → List ℕ → ℤ → Option CatalogError
-create_refusal f name now = first_of (
+abbrev pub create_refusal : PlainFacts → List ℕ → ℤ → Option Refusal
+create_refusal f name now = first_refusal (
     when (is_taken name f) (NameTaken name)
     ∷ when (is_reserved name) Reserved
     ∷ when (not (is_some (template_for name f.templates))) NoTemplate
@@ -98,7 +101,7 @@ created c name now = with_found (template_for name c.templates) c (λ t. record 
 abbrev pub has_member : PlainStream → List ℕ → Bool
 has_member s n = list_any (bytes_eq n) s.facts.members
 
-abbrev pub named_refusal : PlainFacts → List ℕ → Option CatalogError
+abbrev pub named_refusal : PlainFacts → List ℕ → Option Refusal
 named_refusal f name = on_found (stream_named name f.streams) (NoSuchName name) (λ s. None)
 
 abbrev pub stream_deleted : PlainCatalog → List ℕ → PlainCatalog
@@ -134,10 +137,10 @@ written_by f n = find (λ s. is_write s n) f.streams
 abbrev pub next_name : PlainStream → ℤ → List ℕ
 next_name s now = backing_name s.facts.name now (s.facts.generation + 1)
 
-abbrev pub rollover_refusal : PlainFacts → List ℕ → ℤ → Option CatalogError
+abbrev pub rollover_refusal : PlainFacts → List ℕ → ℤ → Option Refusal
 rollover_refusal f name now =
     on_found (stream_named name f.streams) (NoSuchName name) (λ s.
-    on_found (facts_named (write_name s) f.indices) (NoSuchName (write_name s)) (λ w. first_of (
+    on_found (facts_named (write_name s) f.indices) (NoSuchName (write_name s)) (λ w. first_refusal (
     when (int_eq w.end last_instant) TimeOver
     ∷ when (nat_le greatest_generation s.facts.generation) (Limit Generations)
     ∷ when (nat_le most_indices (length f.indices)) (Limit Indices)

@@ -1,18 +1,11 @@
 -- Which names stand in a catalogue.
-use Rattle.std.specs.Prelude.{ℕ, ℤ, List, IsTrue}
+use Rattle.std.specs.Prelude.{IsTrue}
 use Rattle.row_cells.specs.Each.{Each}
-use Rattle.index_names.specs.Backing.{IsBackingOf}
 use Rattle.index_names.specs.Names.{is_stream_name, is_target_name, is_index_name}
+use Rattle.index_names.specs.Reading.{IsBackingName}
 use Rattle.ts_mapping.specs.declared.templates.Template.{Template}
 use Rattle.stream_catalog.specs.declared.facts.TaskFacts.{TaskFacts}
 use Rattle.stream_catalog.specs.Plain.{PlainIndex, PlainStream, PlainCatalog}
-
--- the name of a backing index of some stream, at some instant
-pub record IsOrigin (name : List ℕ) : Type 0 where
-  pub stream : List ℕ
-  pub now : ℤ
-  pub generation : ℕ
-  pub backing : IsBackingOf name stream now generation
 
 abbrev pub IsTemplateNamed : Template → Type 0
 IsTemplateNamed t = IsTrue (is_stream_name t.name)
@@ -22,7 +15,7 @@ IsStreamNamed s = IsTrue (is_stream_name s.facts.name)
 
 -- an index has a name of its own, and that of the backing index that it is or was folded from
 abbrev pub IsIndexNamed : PlainIndex → Type 0
-IsIndexNamed i = IsTrue (is_index_name i.facts.name) × IsOrigin i.facts.origin
+IsIndexNamed i = IsTrue (is_index_name i.facts.name) × IsBackingName i.facts.origin
 
 -- what a task folds to has the name of a target, which begins with a letter or a digit
 abbrev pub IsTaskNamed : TaskFacts → Type 0

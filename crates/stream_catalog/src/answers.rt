@@ -12,9 +12,9 @@ pub enum What {
     Generations,
 }
 
-/// Why a catalogue stays as it was.
+/// What refuses a change of a catalogue.
 #[derive(Debug, Drop, Error)]
-pub enum CatalogError {
+pub enum Refusal {
     #[error("nothing has the name {}", name.as_str())]
     NoSuchName { name: Text },
     #[error("the name {} is taken", name.as_str())]
@@ -45,6 +45,13 @@ pub enum CatalogError {
     /// A path that the index maps with another type or role.
     #[error("{} is mapped in another way in {}", path.as_str(), index.as_str())]
     ChangedField { path: Text, index: Text },
+}
+
+/// Why a catalogue stays as it was.
+#[derive(Debug, Drop, Error)]
+pub enum CatalogError {
+    #[error("{0}")]
+    Refused(Refusal),
     #[error("out of memory")]
     NoMemory,
 }

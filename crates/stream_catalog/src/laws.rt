@@ -86,7 +86,8 @@ pub fn changes_keep_sound()
     ensures runs { RunsKeepSound }
 {}
 
-/// Whether facts are sound and names well formed is told by tests, next to those of templates, mappings and origins.
+/// Facts are sound, and names well formed, exactly where the tests of this crate say so and those that the crates below have for each
+/// template, each mapping and each origin.
 pub fn facts_are_tested()
     ensures facts { FactsAreTested }
     ensures names { NamesAreTested }

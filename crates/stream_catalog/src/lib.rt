@@ -6,7 +6,7 @@ mod answers;
 mod facts;
 mod laws;
 
-pub use answers::{CatalogError, Move, PickError, Ran, Rolled, What};
+pub use answers::{CatalogError, Move, PickError, Ran, Refusal, Rolled, What};
 pub use facts::{HeldIndex, StreamFacts, TaskFacts};
 pub use laws::{
     changes_go_through, changes_keep_sound, facts_are_tested, indices_are_sound, names_keep,

@@ -1,7 +1,6 @@
 -- The first items of a bulk request.
-use Rattle.std.specs.Prelude.{◌≡◌, ℕ, zero, suc, List, [], ◌∷◌, take, Option, Result, Ok}
+use Rattle.std.specs.Prelude.{ℕ, zero, suc, List, [], ◌∷◌, take}
 use Rattle.std.proofs.Common.{sym, subst}
-use Rattle.bulk_json.specs.Items.{bulk_of}
 use Rattle.bulk_json.specs.declared.items.Item.{Item}
 use Rattle.row_cells.specs.Limits.{longest_list}
 use Rattle.tsds_service.specs.Laws.{FirstsRefine}

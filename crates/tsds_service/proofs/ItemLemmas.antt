@@ -13,9 +13,6 @@ use Rattle.row_cells.specs.declared.rows.Cell.{Cell}
 use Rattle.row_cells.specs.declared.rows.Row.{Row}
 use Rattle.serde_json.specs.Data.{Data}
 use Rattle.series_id.specs.Ids.{id_of}
-use Rattle.series_id.specs.Keys.{keyed}
-use Rattle.series_id.specs.declared.keys.KeyError.{KeyError}
-use Rattle.series_id.specs.declared.keys.KeyError.TheVariants.{NoRouting, KeyTooLong, NoMemory}
 use Rattle.stream_catalog.specs.Laws.{IsShut, ShowsPuts, FindsPlace}
 use Rattle.stream_catalog.specs.Lists.{with_found, stream_named, index_named}
 use Rattle.stream_catalog.specs.Plain.{PlainIndex, PlainStream, PlainCatalog, facts_of}
@@ -27,7 +24,7 @@ use Rattle.synthetic_source.specs.Document.{document_cells}
 use Rattle.synthetic_source.specs.Faults.{time_fault, time_of}
 use Rattle.synthetic_source.specs.declared.errors.DocKind.{DocKind}
 use Rattle.time_text.specs.declared.intervals.Interval.{Interval}
-use Rattle.tsds_service.specs.Bulk.{Outcome, taken, barred, by_place, by_key, by_cells, by_index, by_pick, by_time, by_stream, by_action, item_outcome, after_outcome, after_item, outcomes_of, after_items}
+use Rattle.tsds_service.specs.Bulk.{Outcome, taken, barred, key_of, by_place, by_key, by_cells, by_index, by_pick, by_time, by_stream, by_action, item_outcome, after_outcome, after_item, outcomes_of, after_items}
 use Rattle.tsds_service.specs.Causes.{ItemCause, conflict, full, blocked, outside, no_stream, no_object}
 use Rattle.tsds_service.proofs.CatalogLaws.{CatalogLaws}
 use Rattle.tsds_service.proofs.PickLemmas.{picked_open}
@@ -69,14 +66,12 @@ module _ (laws : CatalogLaws) where
       ap (λ b. if b then barred (conflict (id_of row.key row.time)) else (if is_full (see_index i).rows then barred (full n) else taken n row)) place
       ∙ ap (λ k. if has_place row.key row.time i.rows then barred (conflict (id_of row.key row.time)) else (if nat_le most_documents k then barred (full n) else taken n row)) number
 
-  key-see : (n : List ℕ) (i : PlainIndex) (time : ℤ) (cells : List Cell) (key : Result (List ℕ) KeyError) → i.facts.interval ≡ None → by_key n (see_index i) time cells key ≡ by_key n i time cells key
+  key-see : (n : List ℕ) (i : PlainIndex) (time : ℤ) (cells : List Cell) (key : Result (List ℕ) ItemCause) → i.facts.interval ≡ None → by_key n (see_index i) time cells key ≡ by_key n i time cells key
   key-see n i time cells (Ok key) raw = place-see n i (record { key = key; time = time; count = 1; cells = cells }) raw
-  key-see n i time cells (Err NoRouting) raw = refl
-  key-see n i time cells (Err (KeyTooLong bytes)) raw = refl
-  key-see n i time cells (Err NoMemory) raw = refl
+  key-see n i time cells (Err cause) raw = refl
 
   cells-see : (n : List ℕ) (i : PlainIndex) (time : ℤ) (cells : Result (List Cell) (DocKind × List ℕ)) → i.facts.interval ≡ None → by_cells n (see_index i) time cells ≡ by_cells n i time cells
-  cells-see n i time (Ok cells) raw = key-see n i time cells (keyed i.facts.mapping.schema cells) raw
+  cells-see n i time (Ok cells) raw = key-see n i time cells (key_of i.facts.mapping.schema cells) raw
   cells-see n i time (Err fault) raw = refl
 
   -- an index that takes documents is raw
@@ -145,14 +140,12 @@ module _ (laws : CatalogLaws) where
             subst (λ (k : PlainIndex). (k.facts.blocked ≡ false) × (has_place row.key row.time k.rows ≡ false)) same
             (takes, subst (λ (x : Row). has_place x.key x.time i.rows ≡ false) (taken_row is) place)
 
-    key_found : (m : List ℕ) (i : PlainIndex) (time : ℤ) (cells : List Cell) (key : Result (List ℕ) KeyError) → index_named m c.indices ≡ Some i → i.facts.blocked ≡ false → by_key m i time cells key ≡ taken n row → FindsPlace c n row
+    key_found : (m : List ℕ) (i : PlainIndex) (time : ℤ) (cells : List Cell) (key : Result (List ℕ) ItemCause) → index_named m c.indices ≡ Some i → i.facts.blocked ≡ false → by_key m i time cells key ≡ taken n row → FindsPlace c n row
     key_found m i time cells (Ok key) found takes is = place_found m i (record { key = key; time = time; count = 1; cells = cells }) found takes is
-    key_found m i time cells (Err NoRouting) found takes is = absurd (barred_not is)
-    key_found m i time cells (Err (KeyTooLong bytes)) found takes is = absurd (barred_not is)
-    key_found m i time cells (Err NoMemory) found takes is = absurd (barred_not is)
+    key_found m i time cells (Err cause) found takes is = absurd (barred_not is)
 
     cells_found : (m : List ℕ) (i : PlainIndex) (time : ℤ) (cells : Result (List Cell) (DocKind × List ℕ)) → index_named m c.indices ≡ Some i → i.facts.blocked ≡ false → by_cells m i time cells ≡ taken n row → FindsPlace c n row
-    cells_found m i time (Ok cells) found takes is = key_found m i time cells (keyed i.facts.mapping.schema cells) found takes is
+    cells_found m i time (Ok cells) found takes is = key_found m i time cells (key_of i.facts.mapping.schema cells) found takes is
     cells_found m i time (Err fault) found takes is = absurd (barred_not is)
 
     pick_found : (s : PlainStream) (time : ℤ) (d : Data) (pick : Result (List ℕ) PickError) → picked_by (facts_of c) s time ≡ pick → by_pick c s time d pick ≡ taken n row → FindsPlace c n row

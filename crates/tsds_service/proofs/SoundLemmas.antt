@@ -1,8 +1,6 @@
 -- A step leaves a sound machine sound.
 use Rattle.std.specs.Prelude.{◌≡◌, ℕ, Bool, true, false, List, [], Option, Some, None, Result, Ok, Err, IsTrue, if◌then◌else◌}
 use Rattle.std.proofs.Common.{refl, sym, subst}
-use Rattle.bulk_json.specs.Items.{bulk_of}
-use Rattle.bulk_json.specs.declared.errors.BulkError.{BulkError}
 use Rattle.bulk_json.specs.declared.items.Item.{Item}
 use Rattle.index_names.specs.Names.{is_stream_name, is_target_name}
 use Rattle.lifecycle_swap.specs.BodyLaws.{bodies_are_lifecycles}
@@ -16,29 +14,29 @@ use Rattle.stream_catalog.specs.Indices.{block_refusal, blocked_in, downsample_r
 use Rattle.stream_catalog.specs.Lists.{with_found, stream_named}
 use Rattle.stream_catalog.specs.Moves.{moves_refusal, moved_all}
 use Rattle.stream_catalog.specs.Plain.{PlainCatalog, facts_of}
-use Rattle.stream_catalog.specs.Rounds.{lifecycle_run}
+use Rattle.stream_catalog.specs.Runs.{lifecycle_run}
 use Rattle.stream_catalog.specs.Sound.{IsSoundCatalog}
 use Rattle.stream_catalog.specs.Streams.{template_refusal, template_put, create_refusal, created, named_refusal, stream_deleted, life_set, rollover_refusal, rolled_over, rolled_names}
 use Rattle.stream_catalog.specs.Ways.{plain_way}
 use Rattle.stream_catalog.specs.WellNamed.{IsWellNamed}
-use Rattle.stream_catalog.specs.declared.answers.CatalogError.{CatalogError}
+use Rattle.stream_catalog.specs.declared.answers.Refusal.{Refusal}
 use Rattle.time_text.specs.declared.intervals.Interval.{Interval}
 use Rattle.ts_mapping.specs.Faults.{refusal_of}
 use Rattle.ts_mapping.specs.Templates.{template_of}
 use Rattle.ts_mapping.specs.declared.faults.Fault.{Fault}
 use Rattle.tsds_service.specs.Bodies.{fixed_interval_of, moves_of}
-use Rattle.tsds_service.specs.Bulk.{after_items}
+use Rattle.tsds_service.specs.Bulk.{items_of, after_items}
 use Rattle.tsds_service.specs.Causes as cause
 use Rattle.tsds_service.specs.Causes.{Cause, refused}
 use Rattle.tsds_service.specs.Laws.{SeenAgain, StepsStand, StepsKeepSound, StepsKeepSeen}
 use Rattle.tsds_service.specs.Machine.{Machine, IsSound, IsSeen}
 use Rattle.tsds_service.specs.Questions.{Asking}
 use Rattle.tsds_service.specs.Replies.{ack, stream_reply, rolled_reply, blocked_reply}
-use Rattle.tsds_service.specs.Step as spec
-use Rattle.tsds_service.specs.Step.{Stepped, About, told, changed, unless, caused, about_name, about_index, about_fold, fold_names_refusal, write_index, step_of, step}
+use Rattle.tsds_service.specs.Requests as spec
+use Rattle.tsds_service.specs.Requests.{Stepped, About, told, changed, unless, caused, about_name, about_index, about_fold, fold_names_refusal, write_index, step_of, step}
 use Rattle.tsds_service.specs.declared.reply.Reply.{Reply}
 use Rattle.tsds_service.proofs.CatalogLaws.{SoundLaws}
-use Rattle.tsds_service.proofs.SourceLemmas.{GivesWithin, sources_within}
+use Rattle.tsds_service.proofs.SourceLemmas.{GivesWithin, items_within}
 use Rattle.tsds_service.proofs.TakesLemmas.{items_sound, items_named}
 use Rattle.tsds_service.proofs.StepLemmas.{caused_none}
 
@@ -62,7 +60,7 @@ module _ (laws : SoundLaws) (m : Machine) (sound : IsSound m) where
   left c is named = record { catalog = is; now = sound.now; names = named }
 
   -- a change that keeps a catalogue sound, and its names well formed, where nothing refuses it
-  by_change : (a : About) (refusal : Option CatalogError) (reply : Reply) (c : PlainCatalog) → (refusal ≡ None → IsSoundCatalog c) → (refusal ≡ None → IsWellNamed c) →
+  by_change : (a : About) (refusal : Option Refusal) (reply : Reply) (c : PlainCatalog) → (refusal ≡ None → IsSoundCatalog c) → (refusal ≡ None → IsWellNamed c) →
       IsSound (unless (caused a refusal) m (changed m reply c)).machine
   by_change a refusal reply c keeps names =
       unless-sound (caused a refusal) m (changed m reply c) sound (λ none. left c (keeps (caused_none a refusal none)) (names (caused_none a refusal none)))
@@ -102,8 +100,8 @@ module _ (laws : SoundLaws) (m : Machine) (sound : IsSound m) where
       (laws.templates m.catalog (template_of name body) (laws.bodies name body read) sound.catalog)
       (λ none. laws.names.templates m.catalog (template_of name body) (template-named name body named) sound.names)
 
-  bulk-sound : (items : Result (List Item) BulkError) → GivesWithin longest_list items → IsSound (spec.bulk plain_way m items).machine
-  bulk-sound (Err e) short = sound
+  bulk-sound : (items : Result (List Item) Cause) → GivesWithin longest_list items → IsSound (spec.bulk plain_way m items).machine
+  bulk-sound (Err cause) short = sound
   bulk-sound (Ok items) short =
       left (after_items plain_way m.catalog items) (items_sound laws.held laws.cells laws.puts m.catalog items sound.catalog short) (items_named laws.names m.catalog items sound.names)
 
@@ -117,7 +115,7 @@ module _ (laws : SoundLaws) (m : Machine) (sound : IsSound m) where
   step_of-sound asking (asked.delete_stream name) is_asked =
       by_change (about_name name) (named_refusal (facts_of m.catalog) name) ack (stream_deleted m.catalog name) (λ none. laws.stream_deletions m.catalog name sound.catalog)
       (λ none. laws.names.stream_deletions m.catalog name sound.names)
-  step_of-sound asking (asked.bulk path body) is_asked = bulk-sound (bulk_of path body) (sources_within path body longest_list is_asked.1)
+  step_of-sound asking (asked.bulk path body) is_asked = bulk-sound (items_of path body) (items_within path body longest_list is_asked.1)
   step_of-sound asking (asked.rollover name) is_asked =
       by_change (about_index (write_index (facts_of m.catalog) name)) (rollover_refusal (facts_of m.catalog) name m.now) (rolled_reply (rolled_names (facts_of m.catalog) name m.now))
       (rolled_over m.catalog name m.now) (laws.rollovers m.catalog name m.now sound.now sound.catalog) (λ none. laws.names.rollovers m.catalog name m.now sound.now none sound.names)

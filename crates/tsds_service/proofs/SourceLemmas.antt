@@ -11,6 +11,10 @@ use Rattle.bulk_json.specs.declared.errors.BulkError.{BulkError}
 use Rattle.bulk_json.specs.declared.items.Item.{Item}
 use Rattle.edge_face.specs.Lines.{with_first, pieces_of}
 use Rattle.row_cells.specs.Each.{Each}
+use Rattle.tsds_service.specs.Bulk.{items_of}
+use Rattle.tsds_service.specs.Caused.{IsCaused, with_cause}
+use Rattle.tsds_service.specs.CausedLaws.{bulks_caused}
+use Rattle.tsds_service.specs.Causes.{bulk_cause}
 
 -- ---- lines
 
@@ -62,7 +66,7 @@ IsSourceWithin n (Some source) = length source ≤ n
 abbrev pub AreSourcesWithin : ℕ → List Item → Type 0
 AreSourcesWithin n items = Each (λ i. IsSourceWithin n i.source) items
 
-abbrev pub GivesWithin : ℕ → Result (List Item) BulkError → Type 0
+abbrev pub GivesWithin : {E : Type 0} → ℕ → Result (List Item) E → Type 0
 GivesWithin n (Ok items) = AreSourcesWithin n items
 GivesWithin n (Err e) = Unit {0}
 
@@ -107,3 +111,11 @@ unfolding bulk_of
 sources_within path body n le =
     some_within n (ahead_of path 1 body)
     (from_within n path 1 (lines_of body) (lines_within n (pieces_of body) (within_more (length body) n (pieces_of body) le (pieces_within body))))
+
+caused_within : (n : ℕ) (r : Result (List Item) BulkError) (is : IsCaused bulk_cause r) → GivesWithin n r → GivesWithin n (with_cause bulk_cause r is)
+caused_within n (Ok items) is within = within
+caused_within n (Err e) is within = tt
+
+-- and of what a request is told of them
+pub items_within : (path : Option (List ℕ)) (body : List ℕ) (n : ℕ) → length body ≤ n → GivesWithin n (items_of path body)
+items_within path body n le = caused_within n (bulk_of path body) (bulks_caused path body) (sources_within path body n le)

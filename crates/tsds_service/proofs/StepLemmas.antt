@@ -3,8 +3,6 @@ use Rattle.std.specs.Prelude.{◌≡◌, ℕ, Bool, true, false, List, [], ◌�
 use Rattle.std.specs.List.{cons_option, filter_map}
 use Rattle.std.specs.Option.{option_map}
 use Rattle.std.proofs.Common.{refl, ap, ◌∙◌, sym}
-use Rattle.bulk_json.specs.Items.{bulk_of}
-use Rattle.bulk_json.specs.declared.errors.BulkError.{BulkError}
 use Rattle.bulk_json.specs.declared.items.Item.{Item}
 use Rattle.downsample_fold.specs.Laws.{series_of}
 use Rattle.lifecycle_swap.specs.Bodies.{lifecycle_of}
@@ -17,11 +15,11 @@ use Rattle.stream_catalog.specs.Laws.{see_running}
 use Rattle.stream_catalog.specs.Lists.{with_found, stream_named, index_named}
 use Rattle.stream_catalog.specs.Moves.{moves_refusal, moved_all}
 use Rattle.stream_catalog.specs.Plain.{PlainIndex, PlainStream, PlainCatalog, PlainFacts, facts_of}
-use Rattle.stream_catalog.specs.Rounds.{Running, lifecycle_run}
+use Rattle.stream_catalog.specs.Runs.{Running, lifecycle_run}
 use Rattle.stream_catalog.specs.Sound.{IsSoundCatalog}
 use Rattle.stream_catalog.specs.Streams.{template_refusal, template_put, create_refusal, created, named_refusal, stream_deleted, life_set, rollover_refusal, rolled_over, rolled_names}
 use Rattle.stream_catalog.specs.Ways.{Way, plain_way, seen_way, see_index, see_catalog}
-use Rattle.stream_catalog.specs.declared.answers.CatalogError.{CatalogError}
+use Rattle.stream_catalog.specs.declared.answers.Refusal.{Refusal}
 use Rattle.stream_catalog.specs.declared.answers.Move.{Move}
 use Rattle.stream_catalog.specs.declared.facts.TaskFacts.{TaskFacts}
 use Rattle.time_text.specs.declared.intervals.Interval.{Interval}
@@ -29,15 +27,15 @@ use Rattle.ts_mapping.specs.Faults.{refusal_of}
 use Rattle.ts_mapping.specs.Templates.{template_of}
 use Rattle.ts_mapping.specs.declared.faults.Fault.{Fault}
 use Rattle.tsds_service.specs.Bodies.{fixed_interval_of, moves_of}
-use Rattle.tsds_service.specs.Bulk.{outcomes_of, after_items, bulk_reply}
+use Rattle.tsds_service.specs.Bulk.{items_of, outcomes_of, after_items, bulk_reply}
 use Rattle.tsds_service.specs.Causes as cause
 use Rattle.tsds_service.specs.Causes.{Cause, refused}
 use Rattle.tsds_service.specs.Laws.{StepsRefine, StepsStand, UnitsRefine, UnitsStand}
 use Rattle.tsds_service.specs.Machine.{Machine, see, unit}
 use Rattle.tsds_service.specs.Questions.{Asking, facts_in, samples_of, members_of, target_of, get_reply}
 use Rattle.tsds_service.specs.Replies.{ack, stream_reply, rolled_reply, blocked_reply, ran_reply, series_count, task_tree, tasks_listed}
-use Rattle.tsds_service.specs.Step as spec
-use Rattle.tsds_service.specs.Step.{Stepped, see_stepped, About, told, changed, unless, caused, about_name, about_index, about_fold, fold_names_refusal, write_index, step_of, step}
+use Rattle.tsds_service.specs.Requests as spec
+use Rattle.tsds_service.specs.Requests.{Stepped, see_stepped, About, told, changed, unless, caused, about_name, about_index, about_fold, fold_names_refusal, write_index, step_of, step}
 use Rattle.tsds_service.specs.declared.reply.Reply.{Reply}
 use Rattle.tsds_service.proofs.CatalogLaws.{CatalogLaws}
 use Rattle.tsds_service.proofs.ItemLemmas.{outcomes-see, after_items-see}
@@ -52,7 +50,7 @@ unless-see (Some c) m seen plain same = refl
 told-see : (m : Machine) (seen plain : Reply) → seen ≡ plain → told (see m) seen ≡ see_stepped (told m plain)
 told-see m seen plain same = ap (told (see m)) same
 
-pub caused_none : (a : About) (refusal : Option CatalogError) → caused a refusal ≡ None → refusal ≡ None
+pub caused_none : (a : About) (refusal : Option Refusal) → caused a refusal ≡ None → refusal ≡ None
 caused_none a None is = refl
 caused_none a (Some e) is = absurd (no is)
   where
@@ -127,8 +125,8 @@ module _ (laws : CatalogLaws) (m : Machine) where
 
   -- ---- documents
 
-  bulk-see : IsSoundCatalog m.catalog → (items : Result (List Item) BulkError) → spec.bulk seen_way (see m) items ≡ see_stepped (spec.bulk plain_way m items)
-  bulk-see sound (Err e) = refl
+  bulk-see : IsSoundCatalog m.catalog → (items : Result (List Item) Cause) → spec.bulk seen_way (see m) items ≡ see_stepped (spec.bulk plain_way m items)
+  bulk-see sound (Err cause) = refl
   bulk-see sound (Ok items) =
       let shows = laws.shows m.catalog sound in
       ap (λ os. changed (see m) (bulk_reply items os) (after_items seen_way (see_catalog m.catalog) items)) (outcomes-see laws m.catalog shows items)
@@ -210,7 +208,7 @@ module _ (laws : CatalogLaws) (m : Machine) where
   step_of-see asking (asked.get_stream name) sound = get_stream-see name
   step_of-see asking (asked.delete_stream name) sound =
       by_change (λ f. caused (about_name name) (named_refusal f name)) (λ f. ack) (λ c. stream_deleted c name) (laws.changes.stream_deleted name m.catalog)
-  step_of-see asking (asked.bulk path body) sound = bulk-see sound (bulk_of path body)
+  step_of-see asking (asked.bulk path body) sound = bulk-see sound (items_of path body)
   step_of-see asking (asked.rollover name) sound = rollover-see name
   step_of-see asking (asked.block n) sound =
       by_change (λ f. caused (about_index n) (block_refusal f n)) (λ f. blocked_reply n) (λ c. blocked_in c n) (laws.changes.blocked n m.catalog)

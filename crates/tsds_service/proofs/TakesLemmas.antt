@@ -25,7 +25,7 @@ use Rattle.serde_json.specs.Data.{Data}
 use Rattle.series_id.specs.Ids.{id_of}
 use Rattle.series_id.specs.Keys.{keyed}
 use Rattle.series_id.specs.declared.keys.KeyError.{KeyError}
-use Rattle.series_id.specs.declared.keys.KeyError.TheVariants.{NoRouting, KeyTooLong, NoMemory}
+use Rattle.series_id.specs.declared.keys.KeyError.TheVariants.{NoRouting, KeyTooLong}
 use Rattle.stream_catalog.specs.Laws.{FoundIsHeld, NamesKeep, TakesRow, PutsKeepSound}
 use Rattle.stream_catalog.specs.Lists.{with_found, stream_named, index_named}
 use Rattle.stream_catalog.specs.Plain.{PlainIndex, PlainStream, PlainCatalog, facts_of}
@@ -41,8 +41,9 @@ use Rattle.synthetic_source.specs.Laws.{CellsOfDocumentsFit}
 use Rattle.synthetic_source.specs.declared.errors.DocKind.{DocKind}
 use Rattle.time_text.specs.Instant.{IsInstant}
 use Rattle.time_text.specs.declared.intervals.Interval.{Interval}
-use Rattle.tsds_service.specs.Bulk.{Outcome, taken, barred, by_place, by_key, by_cells, by_index, by_pick, by_time, by_stream, by_action, item_outcome, after_outcome, after_item, after_items}
-use Rattle.tsds_service.specs.Causes.{conflict, full, outside, no_stream, no_object}
+use Rattle.tsds_service.specs.Bulk.{Outcome, taken, barred, key_of, by_place, by_key, by_cells, by_index, by_pick, by_time, by_stream, by_action, item_outcome, after_outcome, after_item, after_items}
+use Rattle.tsds_service.specs.CausedLaws.{keys_caused, same_with_causes}
+use Rattle.tsds_service.specs.Causes.{ItemCause, conflict, full, outside, no_stream, no_object, key_cause}
 use Rattle.tsds_service.proofs.ItemLemmas.{barred_not, taken_name, taken_row, some_is, none_not_some}
 use Rattle.tsds_service.proofs.PickLemmas.{picked_open, picked_within}
 use Rattle.tsds_service.proofs.SourceLemmas.{IsSourceWithin, AreSourcesWithin}
@@ -101,14 +102,14 @@ module _ (held_there : FoundIsHeld) (fit : CellsOfDocumentsFit) (c : PlainCatalo
           subst (λ (k : PlainIndex). MayPut k.facts k.rows row) same
           (subst (λ (x : Row). MayPut i.facts i.rows x) (taken_row is) (record { takes = takes; within = within; free = place; room = room; row_of = row_of }))
 
-  key_takes : (m : List ℕ) (i : PlainIndex) (time : ℤ) (cells : List Cell) (key : Result (List ℕ) KeyError) → index_named m c.indices ≡ Some i → i.facts.blocked ≡ false → has_time i.facts time ≡ true
+  key_takes : (m : List ℕ) (i : PlainIndex) (time : ℤ) (cells : List Cell) (key : Result (List ℕ) ItemCause) → index_named m c.indices ≡ Some i → i.facts.blocked ≡ false → has_time i.facts time ≡ true
       → CellsFit false i.facts.mapping.schema.rises 1 i.facts.mapping.schema.fields cells × Each IsShortList cells
-      → keyed i.facts.mapping.schema cells ≡ key → by_key m i time cells key ≡ taken n row → TakesRow c n row
+      → key_of i.facts.mapping.schema cells ≡ key → by_key m i time cells key ≡ taken n row → TakesRow c n row
   key_takes m i time cells (Ok key) found takes within fits made is =
       let schema = i.facts.mapping.schema in
       let held = held_there c m i sound found in
       let raw = raw_schema i.facts.interval i.facts.blocked schema held.kind takes in
-      let both = keyed_is schema cells key made in
+      let both = keyed_is schema cells key ((same_with_causes key_cause (keyed schema cells) (keys_caused schema cells)).value_back key made) in
       let window = and_parts (int_le i.facts.start time) (int_lt time i.facts.end) within in
       place_takes m i (record { key = key; time = time; count = 1; cells = cells }) found takes within
       (record {
@@ -123,16 +124,14 @@ module _ (held_there : FoundIsHeld) (fit : CellsOfDocumentsFit) (c : PlainCatalo
         keyed = both.0;
         short = fits.1;
       }) is
-  key_takes m i time cells (Err NoRouting) found takes within fits made is = absurd (barred_not is)
-  key_takes m i time cells (Err (KeyTooLong bytes)) found takes within fits made is = absurd (barred_not is)
-  key_takes m i time cells (Err NoMemory) found takes within fits made is = absurd (barred_not is)
+  key_takes m i time cells (Err cause) found takes within fits made is = absurd (barred_not is)
 
   cells_take : (m : List ℕ) (i : PlainIndex) (time : ℤ) (d : Data) (cells : Result (List Cell) (DocKind × List ℕ)) → leaf_count d ≤ longest_list → index_named m c.indices ≡ Some i →
       i.facts.blocked ≡ false
       → has_time i.facts time ≡ true → document_cells i.facts.mapping.schema i.facts.mapping.strict d ≡ cells → by_cells m i time cells ≡ taken n row → TakesRow c n row
   cells_take m i time d (Ok cells) few found takes within made is =
       let held = held_there c m i sound found in
-      key_takes m i time cells (keyed i.facts.mapping.schema cells) found takes within (fit i.facts.mapping.schema i.facts.mapping.strict d cells held.mapping.schema few made) refl is
+      key_takes m i time cells (key_of i.facts.mapping.schema cells) found takes within (fit i.facts.mapping.schema i.facts.mapping.strict d cells held.mapping.schema few made) refl is
   cells_take m i time d (Err fault) few found takes within made is = absurd (barred_not is)
 
   pick_takes : (s : PlainStream) (time : ℤ) (d : Data) (pick : Result (List ℕ) PickError) → leaf_count d ≤ longest_list → picked_by (facts_of c) s time ≡ pick →

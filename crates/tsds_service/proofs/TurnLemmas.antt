@@ -8,16 +8,16 @@ use Rattle.edge_face.specs.Limits.{body_limit, last_instant}
 use Rattle.rest_request.specs.AskedLaws.{asked_so}
 use Rattle.rest_request.specs.Message.{Message}
 use Rattle.rest_request.specs.Table.{request_of}
-use Rattle.rest_request.specs.declared.request.RequestError.{RequestError}
 use Rattle.row_cells.specs.Each.{Each}
 use Rattle.stream_catalog.specs.Ways.{plain_way, seen_way}
 use Rattle.time_text.specs.Instant.{IsInstant, in_range, instant_of, written_of}
-use Rattle.tsds_service.specs.Causes.{refused, request_cause}
+use Rattle.tsds_service.specs.CausedLaws.{requests_caused, same_with_causes}
+use Rattle.tsds_service.specs.Causes.{Cause, refused, request_cause}
 use Rattle.tsds_service.specs.Laws.{SeenAgain, StepsRefine, UnitsRefine, StepsKeepSound, UnitsKeepSound, IsSoundStanding, IsSeenStanding, IsSoundWritten, IsSeenWritten, MessagesRefine, MomentsAreInstants, TurnAlike, TurnsRefine, TurnStands, TurnsStand}
 use Rattle.tsds_service.specs.Machine.{Machine, see, IsSound}
-use Rattle.tsds_service.specs.Messages.{Told, see_told, told_of, told_by, message_told, moment_by, moment_told}
+use Rattle.tsds_service.specs.Messages.{Told, reading_of, see_told, told_of, told_by, message_told, moment_by}
 use Rattle.tsds_service.specs.Questions.{Asking}
-use Rattle.tsds_service.specs.Step.{Stepped, see_stepped, step}
+use Rattle.tsds_service.specs.Requests.{Stepped, see_stepped, step}
 use Rattle.tsds_service.specs.Turns.{Turn, asks, sends, comes, says, works, Standing, see_standing, Turned, see_turned, written_if, by_step, by_message, turned, with_reply, replies, behind, last_written, IsTurn}
 
 none_not_some : {A : Type 0} {a : A} → None ≡ Some a → ⊥
@@ -69,43 +69,46 @@ by_step-see now s = ap (λ w. record { reply = Some s.reply; written = w; after 
 by_message-see : (now : ℤ) (t : Told) → by_message now (record t { stepped = see t.stepped; after = see t.after }) ≡ see_turned (by_message now t)
 by_message-see now t = ap (λ w. record { reply = Some t.reply; written = w; after = record { machine = see t.after; present = now } }) (written-see t.wrote t.stepped)
 
+read_so : (method target body : List ℕ) (message : Message) → reading_of method target body ≡ Ok message → request_of method target body ≡ Ok message
+read_so method target body message = (same_with_causes request_cause (request_of method target body) (requests_caused method target body)).value_back message
+
 module _ (again : SeenAgain) (steps : StepsRefine) (units : UnitsRefine) (steps_keep : StepsKeepSound) (units_keep : UnitsKeepSound) (asking : Asking) where
   -- ---- a request as it is sent
 
   told_of-see : (s : Stepped) → IsSound s.machine → told_of seen_way (see_stepped s) ≡ see_told (told_of plain_way s)
   told_of-see s sound = ap (λ (n : Machine). record { reply = s.reply; stepped = see s.machine; after = n; wrote = s.wrote }) (units s.machine sound)
 
-  told-see : (m : Machine) (now : ℤ) (method target body : List ℕ) (r : Result Message RequestError) → IsSound m → IsInstant now → length body ≤ body_limit → request_of method target body ≡ r →
+  told-see : (m : Machine) (now : ℤ) (method target body : List ℕ) (r : Result Message Cause) → IsSound m → IsInstant now → length body ≤ body_limit → reading_of method target body ≡ r →
       told_by asking seen_way (see m) now r ≡ see_told (told_by asking plain_way m now r)
   told-see m now method target body (Ok message) sound is_now short read =
       ap (told_of seen_way) (steps asking m message now sound) ∙ told_of-see (step asking plain_way m message now)
-      (steps_keep asking m message now sound (asked_so method target body message read short) is_now)
-  told-see m now method target body (Err e) sound is_now short read =
-      ap (λ (n : Machine). record { reply = refused (request_cause e); stepped = see m; after = n; wrote = false }) (units m sound)
+      (steps_keep asking m message now sound (asked_so method target body message (read_so method target body message read) short) is_now)
+  told-see m now method target body (Err cause) sound is_now short read =
+      ap (λ (n : Machine). record { reply = refused cause; stepped = see m; after = n; wrote = false }) (units m sound)
 
   message-see : (m : Machine) (now : ℤ) (method target body : List ℕ) → IsSound m → IsInstant now → length body ≤ body_limit →
       message_told asking seen_way (see m) now method target body ≡ see_told (message_told asking plain_way m now method target body)
   unfolding message_told
-  message-see m now method target body sound is_now short = told-see m now method target body (request_of method target body) sound is_now short refl
+  message-see m now method target body sound is_now short = told-see m now method target body (reading_of method target body) sound is_now short refl
 
-  told-sound : (m : Machine) (now : ℤ) (method target body : List ℕ) (r : Result Message RequestError) → IsSound m → IsInstant now → length body ≤ body_limit →
-      request_of method target body ≡ r → IsSound (told_by asking plain_way m now r).after
+  told-sound : (m : Machine) (now : ℤ) (method target body : List ℕ) (r : Result Message Cause) → IsSound m → IsInstant now → length body ≤ body_limit →
+      reading_of method target body ≡ r → IsSound (told_by asking plain_way m now r).after
   told-sound m now method target body (Ok message) sound is_now short read =
-      units_keep (step asking plain_way m message now).machine (steps_keep asking m message now sound (asked_so method target body message read short) is_now)
-  told-sound m now method target body (Err e) sound is_now short read = units_keep m sound
+      units_keep (step asking plain_way m message now).machine (steps_keep asking m message now sound (asked_so method target body message (read_so method target body message read) short) is_now)
+  told-sound m now method target body (Err cause) sound is_now short read = units_keep m sound
 
   message-sound : (m : Machine) (now : ℤ) (method target body : List ℕ) → IsSound m → IsInstant now → length body ≤ body_limit → IsSound (message_told asking plain_way m now method target body).after
   unfolding message_told
-  message-sound m now method target body sound is_now short = told-sound m now method target body (request_of method target body) sound is_now short refl
+  message-sound m now method target body sound is_now short = told-sound m now method target body (reading_of method target body) sound is_now short refl
 
-  told-stepped : (m : Machine) (now : ℤ) (method target body : List ℕ) (r : Result Message RequestError) → IsSound m → IsInstant now → length body ≤ body_limit →
-      request_of method target body ≡ r → IsSound (told_by asking plain_way m now r).stepped
-  told-stepped m now method target body (Ok message) sound is_now short read = steps_keep asking m message now sound (asked_so method target body message read short) is_now
-  told-stepped m now method target body (Err e) sound is_now short read = sound
+  told-stepped : (m : Machine) (now : ℤ) (method target body : List ℕ) (r : Result Message Cause) → IsSound m → IsInstant now → length body ≤ body_limit →
+      reading_of method target body ≡ r → IsSound (told_by asking plain_way m now r).stepped
+  told-stepped m now method target body (Ok message) sound is_now short read = steps_keep asking m message now sound (asked_so method target body message (read_so method target body message read) short) is_now
+  told-stepped m now method target body (Err cause) sound is_now short read = sound
 
   message-stepped : (m : Machine) (now : ℤ) (method target body : List ℕ) → IsSound m → IsInstant now → length body ≤ body_limit → IsSound (message_told asking plain_way m now method target body).stepped
   unfolding message_told
-  message-stepped m now method target body sound is_now short = told-stepped m now method target body (request_of method target body) sound is_now short refl
+  message-stepped m now method target body sound is_now short = told-stepped m now method target body (reading_of method target body) sound is_now short refl
 
   -- ---- a turn
 

@@ -8,6 +8,7 @@ use Rattle.serde_json.specs.Find.{as_str, get}
 use Rattle.stream_catalog.specs.declared.answers.Move.{Move}
 use Rattle.stream_catalog.specs.declared.answers.Move.TheVariants.{Remove, Add}
 use Rattle.time_text.specs.declared.intervals.Interval.{Interval}
+use Rattle.tsds_service.specs.Limits.{most_moves}
 
 -- the interval of a downsampling: the body's one member
 abbrev pub fixed_interval_of : Data → Option Interval
@@ -50,9 +51,9 @@ moves_listed (string s) = None
 moves_listed (array ds) = moves_in ds
 moves_listed (object ms) = None
 
--- 1 to 1,000 of them
+-- one or more, and no more than the limit
 abbrev pub few_moves : List Move → Option (List Move)
-few_moves ms = if nat_le 1 (length ms) && nat_le (length ms) 1_000 then Some ms else None
+few_moves ms = if nat_le 1 (length ms) && nat_le (length ms) most_moves then Some ms else None
 
 -- the moves of a body: the list that is its one member
 abbrev pub moves_of : Data → Option (List Move)

@@ -2,6 +2,7 @@
 use Rattle.std.specs.Prelude.{ℕ, ℤ, pos, Bool, true, false, List, [], ◌∷◌, take, codes, Option, Some, None, Result, Ok, Err, option_and_then, unwrap_or, if◌then◌else◌}
 use Rattle.std.specs.List.{list_any}
 use Rattle.bulk_json.specs.Actions.{action_name}
+use Rattle.bulk_json.specs.Items.{bulk_of}
 use Rattle.bulk_json.specs.declared.action.Action.{Action}
 use Rattle.bulk_json.specs.declared.action.Action.TheVariants.{Create, Index, Update, Delete}
 use Rattle.bulk_json.specs.declared.items.Item.{Item}
@@ -11,11 +12,10 @@ use Rattle.rest_request.specs.Body.{object_of}
 use Rattle.row_cells.specs.RowLists.{has_place}
 use Rattle.row_cells.specs.declared.rows.Cell.{Cell}
 use Rattle.row_cells.specs.declared.rows.Row.{Row}
+use Rattle.row_cells.specs.declared.schemas.Schema.{Schema}
 use Rattle.serde_json.specs.Data.{Data}
 use Rattle.series_id.specs.Ids.{id_of}
 use Rattle.series_id.specs.Keys.{keyed}
-use Rattle.series_id.specs.declared.keys.KeyError.{KeyError}
-use Rattle.series_id.specs.declared.keys.KeyError.TheVariants.{NoRouting, KeyTooLong, NoMemory}
 use Rattle.stream_catalog.specs.Lists.{with_found, stream_named, index_named}
 use Rattle.stream_catalog.specs.Plain.{PlainIndex, PlainStream, PlainCatalog, facts_of}
 use Rattle.stream_catalog.specs.Puts.{is_full, member_at, picked_by, put_into}
@@ -25,8 +25,14 @@ use Rattle.stream_catalog.specs.declared.answers.PickError.TheVariants.{NoWindow
 use Rattle.synthetic_source.specs.Document.{document_cells}
 use Rattle.synthetic_source.specs.Faults.{time_fault, time_of}
 use Rattle.synthetic_source.specs.declared.errors.DocKind.{DocKind}
-use Rattle.tsds_service.specs.Causes.{Wrong, ItemCause, only_create, no_stream, no_object, bad_time, outside, blocked, bad_document, no_routing, long_key, conflict, full, item_said}
+use Rattle.tsds_service.specs.Caused.{with_cause}
+use Rattle.tsds_service.specs.CausedLaws.{bulks_caused, keys_caused}
+use Rattle.tsds_service.specs.Causes.{Wrong, Cause, ItemCause, only_create, no_stream, no_object, bad_time, outside, blocked, bad_document, conflict, full, item_said, bulk_cause, key_cause}
 use Rattle.tsds_service.specs.declared.reply.Reply.{Reply}
+
+-- the items of a body, or why it has none
+abbrev pub items_of : Option (List ℕ) → List ℕ → Result (List Item) Cause
+items_of path body = with_cause bulk_cause (bulk_of path body) (bulks_caused path body)
 
 -- an item is taken by an index, as a row, or barred
 pub data Outcome : Type 0 where
@@ -41,16 +47,18 @@ by_place n i row =
     if has_place row.key row.time i.rows then barred (conflict (id_of row.key row.time))
     else (if is_full i.rows then barred (full n) else taken n row)
 
--- the series has a key; that there is no memory is no cause of a definition's
-abbrev pub by_key : List ℕ → PlainIndex → ℤ → List Cell → Result (List ℕ) KeyError → Outcome
+-- the key of a series, or why it has none
+abbrev pub key_of : Schema → List Cell → Result (List ℕ) ItemCause
+key_of schema cells = with_cause key_cause (keyed schema cells) (keys_caused schema cells)
+
+-- the series has a key
+abbrev pub by_key : List ℕ → PlainIndex → ℤ → List Cell → Result (List ℕ) ItemCause → Outcome
 by_key n i time cells (Ok key) = by_place n i (record { key = key; time = time; count = 1; cells = cells })
-by_key n i time cells (Err NoRouting) = barred no_routing
-by_key n i time cells (Err (KeyTooLong bytes)) = barred (long_key bytes)
-by_key n i time cells (Err NoMemory) = barred no_routing
+by_key n i time cells (Err cause) = barred cause
 
 -- the document has no fault
 abbrev pub by_cells : List ℕ → PlainIndex → ℤ → Result (List Cell) (DocKind × List ℕ) → Outcome
-by_cells n i time (Ok cells) = by_key n i time cells (keyed i.facts.mapping.schema cells)
+by_cells n i time (Ok cells) = by_key n i time cells (key_of i.facts.mapping.schema cells)
 by_cells n i time (Err fault) = barred (bad_document fault.0 fault.1)
 
 -- what the index's mapping makes of the document

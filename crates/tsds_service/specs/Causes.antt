@@ -1,11 +1,13 @@
 -- Why requests and items are refused, and the one reply of each cause. All texts of refusals have their home here.
-use Rattle.std.specs.Prelude.{ℕ, ℤ, List, ◌++◌, codes}
+use Rattle.std.specs.Prelude.{ℕ, ℤ, List, ◌++◌, codes, Option, Some, None}
 use Rattle.std.specs.Fmt.{decimal}
 use Rattle.bulk_json.specs.declared.errors.BulkError.{BulkError}
 use Rattle.bulk_json.specs.declared.errors.BulkError.TheVariants as of_bulk
 use Rattle.reply_json.specs.Trees.{error_tree}
 use Rattle.rest_request.specs.declared.request.RequestError.{RequestError}
 use Rattle.rest_request.specs.declared.request.RequestError.TheVariants as of_request
+use Rattle.series_id.specs.declared.keys.KeyError.{KeyError}
+use Rattle.series_id.specs.declared.keys.KeyError.TheVariants as of_key
 use Rattle.stream_catalog.specs.declared.answers.What.{What}
 use Rattle.stream_catalog.specs.declared.answers.What.TheVariants.{Templates, Streams, Indices, Generations}
 use Rattle.synthetic_source.specs.declared.errors.DocKind.{DocKind}
@@ -13,6 +15,7 @@ use Rattle.synthetic_source.specs.declared.errors.DocKind.TheVariants.{NoTime, B
 use Rattle.time_text.specs.Printed.{instant_text}
 use Rattle.ts_mapping.specs.declared.kinds.MapKind.{MapKind}
 use Rattle.ts_mapping.specs.declared.kinds.MapKind.TheVariants.{Shape, BadShards, BadDynamic, UnknownType, TooManyFields, PathClash, BadTimestamp, BadRole, NoDimension, BadRouting}
+use Rattle.tsds_service.specs.Limits.{most_buckets, last_hit}
 use Rattle.tsds_service.specs.declared.reply.Reply.{Reply}
 
 -- ---- causes
@@ -23,6 +26,7 @@ pub data Cause : Type 0 where
   bad_method : Cause
   bad_parameter : Cause
   bad_body : Cause
+  -- of a moment line; the first machine of tsds_cli, which stands on no catalogue, has this text too
   bad_moment : Cause
   no_such_name : List ℕ → Cause
   name_taken : List ℕ → Cause
@@ -98,13 +102,13 @@ wrong status kind reason = record { status = status; kind = kind; reason = reaso
 abbrev pub bad_argument : List ℕ → Wrong
 bad_argument reason = wrong 400 (codes "illegal_argument_exception") reason
 
--- what is named stands in brackets
-abbrev pub named : List ℕ → List ℕ → List ℕ
-named front name = front ++ codes " [" ++ name ++ codes "]"
+-- words, and a text in brackets behind them
+abbrev pub bracketed : List ℕ → List ℕ → List ℕ
+bracketed front name = front ++ codes " [" ++ name ++ codes "]"
 
 -- one name, words, and another
 abbrev pub related : List ℕ → List ℕ → List ℕ → List ℕ
-related first words second = codes "[" ++ first ++ codes "] " ++ named words second
+related first words second = codes "[" ++ first ++ codes "] " ++ bracketed words second
 
 abbrev pub what_text : What → List ℕ
 what_text Templates = codes "templates"
@@ -149,34 +153,34 @@ said bad_method = wrong 405 (codes "illegal_argument_exception") (codes "method 
 said bad_parameter = bad_argument (codes "unrecognized parameter")
 said bad_body = wrong 400 (codes "parse_exception") (codes "bad body")
 said bad_moment = bad_argument (codes "bad moment")
-said (no_such_name name) = wrong 404 (codes "index_not_found_exception") (named (codes "no such index") name)
+said (no_such_name name) = wrong 404 (codes "index_not_found_exception") (bracketed (codes "no such index") name)
 said (name_taken name) = wrong 400 (codes "resource_already_exists_exception") (codes "[" ++ name ++ codes "] already exists")
-said (reserved name) = bad_argument (named (codes "name") name ++ codes " is reserved")
-said (no_template stream) = bad_argument (named (codes "no matching index template for") stream)
+said (reserved name) = bad_argument (bracketed (codes "name") name ++ codes " is reserved")
+said (no_template stream) = bad_argument (bracketed (codes "no matching index template for") stream)
 said (is_write_index index stream) = bad_argument (related index (codes "is the write index of") stream)
 said (not_blocked index) = bad_argument (codes "[" ++ index ++ codes "] must be blocked for writes")
-said (not_greater asked had) = bad_argument (named (named (codes "interval") asked ++ codes " must be greater than") had)
-said (not_multiple asked had) = bad_argument (named (named (codes "interval") asked ++ codes " must be a multiple of") had)
+said (not_greater asked had) = bad_argument (bracketed (bracketed (codes "interval") asked ++ codes " must be greater than") had)
+said (not_multiple asked had) = bad_argument (bracketed (bracketed (codes "interval") asked ++ codes " must be a multiple of") had)
 said (not_member index stream) = bad_argument (related index (codes "is not a backing index of") stream)
 said (is_member index stream) = bad_argument (related index (codes "is a backing index of") stream)
 said (other_mapping index stream) = bad_argument (related index (codes "has another mapping than") stream)
-said (bad_window index stream) = bad_argument (named (named (codes "window of") index ++ codes " does not fit") stream)
-said (changed_field path index) = bad_argument (named (named (codes "field") path ++ codes " is mapped in another way in") index)
-said (time_over index) = bad_argument (named (codes "no time is left after") index)
-said (limit what) = bad_argument (named (codes "limit of") (what_text what) ++ codes " reached")
+said (bad_window index stream) = bad_argument (bracketed (bracketed (codes "window of") index ++ codes " does not fit") stream)
+said (changed_field path index) = bad_argument (bracketed (bracketed (codes "field") path ++ codes " is mapped in another way in") index)
+said (time_over index) = bad_argument (bracketed (codes "no time is left after") index)
+said (limit what) = bad_argument (bracketed (codes "limit of") (what_text what) ++ codes " reached")
 said no_data = bad_argument (codes "no data path")
-said (bad_template kind path) = wrong 400 (codes "mapper_parsing_exception") (named (map_kind_text kind) path)
-said (bad_action line) = bad_argument (named (codes "malformed action line") (decimal line))
-said (missing_source line) = bad_argument (named (codes "missing source line after line") (decimal line))
+said (bad_template kind path) = wrong 400 (codes "mapper_parsing_exception") (bracketed (map_kind_text kind) path)
+said (bad_action line) = bad_argument (bracketed (codes "malformed action line") (decimal line))
+said (missing_source line) = bad_argument (bracketed (codes "missing source line after line") (decimal line))
 said no_items = bad_argument (codes "no items")
 said bad_query = wrong 400 (codes "parse_exception") (codes "bad query")
-said (wrong_value path) = wrong 400 (codes "query_shard_exception") (named (codes "failed to read a value for") path)
+said (wrong_value path) = wrong 400 (codes "query_shard_exception") (bracketed (codes "failed to read a value for") path)
 said bad_aggregation = wrong 400 (codes "parse_exception") (codes "bad aggregation")
-said (wrong_field path kind) = bad_argument (named (named (codes "field") path ++ codes " is not supported for aggregation") kind)
-said (no_increase index) = bad_argument (named (codes "index") index ++ codes " keeps no increase")
-said too_many_buckets = wrong 400 (codes "too_many_buckets_exception") (codes "more than [65536] buckets")
-said (window_too_large asked) = bad_argument (named (codes "from + size must be at most [10000] but was") (decimal asked))
-said (bad_sort_field path) = bad_argument (named (codes "cannot sort on") path)
+said (wrong_field path kind) = bad_argument (bracketed (bracketed (codes "field") path ++ codes " is not supported for aggregation") kind)
+said (no_increase index) = bad_argument (bracketed (codes "index") index ++ codes " keeps no increase")
+said too_many_buckets = wrong 400 (codes "too_many_buckets_exception") (bracketed (codes "more than") (decimal most_buckets) ++ codes " buckets")
+said (window_too_large asked) = bad_argument (bracketed (bracketed (codes "from + size must be at most") (decimal last_hit) ++ codes " but was") (decimal asked))
+said (bad_sort_field path) = bad_argument (bracketed (codes "cannot sort on") path)
 said bad_sort = wrong 400 (codes "parse_exception") (codes "bad sort")
 said bad_head = bad_argument (codes "bad head")
 said needs_length = wrong 411 (codes "illegal_argument_exception") (codes "length required")
@@ -184,16 +188,16 @@ said body_too_large = wrong 413 (codes "illegal_argument_exception") (codes "bod
 
 abbrev pub item_said : ItemCause → Wrong
 item_said only_create = bad_argument (codes "only create is allowed in data streams")
-item_said (no_stream name) = wrong 404 (codes "index_not_found_exception") (named (codes "no such index") name)
+item_said (no_stream name) = wrong 404 (codes "index_not_found_exception") (bracketed (codes "no such index") name)
 item_said no_object = wrong 400 (codes "document_parsing_exception") (codes "source is not a JSON object")
-item_said (bad_time kind) = wrong 400 (codes "document_parsing_exception") (named (doc_kind_text kind) (codes "@timestamp"))
-item_said (outside time) = bad_argument (named (codes "the document timestamp") (instant_text time) ++ codes " is outside of all windows")
-item_said (blocked index) = wrong 403 (codes "cluster_block_exception") (named (codes "index") index ++ codes " blocked")
-item_said (bad_document kind path) = wrong 400 (doc_type kind) (named (doc_kind_text kind) path)
+item_said (bad_time kind) = wrong 400 (codes "document_parsing_exception") (bracketed (doc_kind_text kind) (codes "@timestamp"))
+item_said (outside time) = bad_argument (bracketed (codes "the document timestamp") (instant_text time) ++ codes " is outside of all windows")
+item_said (blocked index) = wrong 403 (codes "cluster_block_exception") (bracketed (codes "index") index ++ codes " blocked")
+item_said (bad_document kind path) = wrong 400 (doc_type kind) (bracketed (doc_kind_text kind) path)
 item_said no_routing = bad_argument (codes "no routing field")
-item_said (long_key bytes) = bad_argument (named (codes "series key of") (decimal bytes) ++ codes " bytes")
+item_said (long_key bytes) = bad_argument (bracketed (codes "series key of") (decimal bytes) ++ codes " bytes")
 item_said (conflict id) = wrong 409 (codes "version_conflict_engine_exception") (codes "[" ++ id ++ codes "]: version conflict, document already exists")
-item_said (full index) = wrong 429 (codes "es_rejected_execution_exception") (named (codes "index") index ++ codes " is full")
+item_said (full index) = wrong 429 (codes "es_rejected_execution_exception") (bracketed (codes "index") index ++ codes " is full")
 
 -- ---- replies
 
@@ -204,17 +208,22 @@ reply_of w = record { status = w.status; body = error_tree w.status w.kind w.rea
 abbrev pub refused : Cause → Reply
 refused cause = reply_of (said cause)
 
--- ---- causes of what other layers refuse; no reading is refused for want of memory
+-- ---- causes of what other layers refuse; want of memory has none, since nothing is replied then
 
-abbrev pub request_cause : RequestError → Cause
-request_cause of_request.NoSuchPath = no_such_path
-request_cause of_request.BadMethod = bad_method
-request_cause of_request.BadParameter = bad_parameter
-request_cause of_request.BadBody = bad_body
-request_cause of_request.NoMemory = bad_body
+abbrev pub request_cause : RequestError → Option Cause
+request_cause of_request.NoSuchPath = Some no_such_path
+request_cause of_request.BadMethod = Some bad_method
+request_cause of_request.BadParameter = Some bad_parameter
+request_cause of_request.BadBody = Some bad_body
+request_cause of_request.NoMemory = None
 
-abbrev pub bulk_cause : BulkError → Cause
-bulk_cause (of_bulk.BadAction line) = bad_action line
-bulk_cause (of_bulk.MissingSource line) = missing_source line
-bulk_cause of_bulk.Empty = no_items
-bulk_cause of_bulk.NoMemory = no_items
+abbrev pub bulk_cause : BulkError → Option Cause
+bulk_cause (of_bulk.BadAction line) = Some (bad_action line)
+bulk_cause (of_bulk.MissingSource line) = Some (missing_source line)
+bulk_cause of_bulk.Empty = Some no_items
+bulk_cause of_bulk.NoMemory = None
+
+abbrev pub key_cause : KeyError → Option ItemCause
+key_cause of_key.NoRouting = Some no_routing
+key_cause (of_key.KeyTooLong bytes) = Some (long_key bytes)
+key_cause of_key.NoMemory = None

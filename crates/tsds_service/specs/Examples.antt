@@ -1,8 +1,10 @@
 -- The definitions on a small machine, worked out: a stream of two members, and two rows in the first of them.
 use Rattle.std.specs.Char.{encode_utf8}
 use Rattle.std.specs.Str.{is_utf8, chars}
-use Rattle.std.specs.Prelude.{ℤ, Err, Ok, map}
-use Rattle.std.proofs.Common.{◌≡◌, Bool, ℕ, pos, List, [], ◌∷◌, Option, Some, None, true, false, refl, arith, codes}
+use Rattle.std.specs.Fmt.{digits}
+use Rattle.std.specs.Option.{is_some}
+use Rattle.std.specs.Prelude.{ℤ, Err, Ok, map, length, nat_le}
+use Rattle.std.proofs.Common.{◌≡◌, Bool, ℕ, pos, List, [], ◌∷◌, Option, Some, None, true, false, refl, ap, arith, codes}
 use Rattle.std.proofs.lemmas.Slice.Eq.{bytes_eq-Decides}
 use Rattle.reply_json.specs.Trees as tree
 use Rattle.reply_json.specs.declared.out.Out.{Flag, Num, Word as Quoted, List as Listed, Object}
@@ -13,6 +15,7 @@ use Rattle.index_names.specs.Patterns.{pattern_takes}
 use Rattle.json_walk.specs.Leaves as leaf
 use Rattle.lifecycle_swap.specs.declared.lifecycles.Lifecycle.{Lifecycle}
 use Rattle.row_cells.specs.RowLists.{has_place}
+use Rattle.row_cells.specs.declared.rows.Cell.{Cell}
 use Rattle.row_cells.specs.declared.rows.Cell.TheVariants.{Absent, One}
 use Rattle.row_cells.specs.declared.rows.Row.{Row}
 use Rattle.row_cells.specs.declared.scalars.Scalar.TheVariants.{Whole, Word}
@@ -21,8 +24,11 @@ use Rattle.row_cells.specs.declared.schemas.Role.TheVariants.{Time, Dimension, C
 use Rattle.row_cells.specs.declared.schemas.Schema.{Schema}
 use Rattle.serde_json.specs.Data.{Data, number, string, array, object, unsigned, no_items, item as element, no_members, member}
 use Rattle.series_id.specs.Ids.{id_of}
+use Rattle.series_id.specs.Keys.{keyed}
 use Rattle.series_id.specs.declared.keys.KeyError.TheVariants.{KeyTooLong}
-use Rattle.stream_catalog.specs.Plain.{PlainIndex, PlainStream, PlainCatalog, facts_of}
+use Rattle.stream_catalog.specs.Limits.{most_streams, most_indices}
+use Rattle.stream_catalog.specs.Names.{is_taken, template_for}
+use Rattle.stream_catalog.specs.Plain.{PlainIndex, PlainStream, PlainCatalog, PlainFacts, facts_of}
 use Rattle.stream_catalog.specs.Puts.{is_full, put_into}
 use Rattle.stream_catalog.specs.Ways.{plain_way, seen_way, see_catalog}
 use Rattle.stream_catalog.specs.Indices.{folded_mapping}
@@ -44,21 +50,22 @@ use Rattle.downsample_fold.specs.Direct.{down}
 use Rattle.rest_request.specs.Body.{object_of}
 use Rattle.rest_request.specs.Message.{flush}
 use Rattle.rest_request.specs.Table.{request_of}
-use Rattle.stream_catalog.specs.Rounds.{lifecycle_run}
-use Rattle.stream_catalog.specs.Streams.{template_refusal, next_name, rolled_names}
+use Rattle.stream_catalog.specs.Runs.{lifecycle_run}
+use Rattle.stream_catalog.specs.Streams.{template_refusal, first_name, next_name, rolled_names}
 use Rattle.stream_catalog.specs.Units.{unit_of}
 use Rattle.stream_catalog.specs.declared.answers.What.TheVariants.{Templates, Streams}
-use Rattle.stream_catalog.specs.declared.answers.CatalogError.TheVariants.{ChangedField, Limit}
+use Rattle.stream_catalog.specs.declared.answers.Refusal.TheVariants.{ChangedField, Limit}
 use Rattle.tsds_service.specs.Machine.{Machine, unit}
-use Rattle.tsds_service.specs.Messages.{message_told, moment_by}
+use Rattle.tsds_service.specs.Messages.{reading_of, message_told, moment_by}
 use Rattle.tsds_service.specs.Questions.{Asking, facts_in, joined_fields, samples_of, no_document, document_reply}
 use Rattle.tsds_service.specs.Replies.{ack, interval_word, ran_reply, rolled_reply, tasks_reply}
-use Rattle.tsds_service.specs.Step.{told, put_template, put_stream, rollover, block, delete_index, downsample_by, get_document, modify, run_lifecycle, step}
+use Rattle.tsds_service.specs.Requests.{told, put_template, put_stream, rollover, block, delete_index, downsample_by, get_document, modify, run_lifecycle, step}
 use Rattle.tsds_service.specs.declared.reply.Reply.{Reply}
 use Rattle.tsds_service.specs.Turns.{asks, sends, comes, works, Standing, replies, behind, last_written}
-use Rattle.tsds_service.specs.Bulk.{Outcome, taken, barred, after_outcome, by_document, by_key, by_place, item_outcome, outcomes_of, item_tree, bulk_reply}
+use Rattle.tsds_service.specs.Bulk.{Outcome, taken, barred, after_outcome, by_document, by_cells, by_key, by_place, item_outcome, outcomes_of, item_tree, bulk_reply}
+use Rattle.tsds_service.specs.CausedLaws.{keys_caused, same_with_causes}
 use Rattle.tsds_service.specs.Causes as cause
-use Rattle.tsds_service.specs.Causes.{Cause, ItemCause, wrong, reply_of, refused, said, item_said, only_create, no_stream, no_object, bad_time, outside, blocked, bad_document, no_routing, long_key, conflict, full}
+use Rattle.tsds_service.specs.Causes.{Cause, ItemCause, wrong, reply_of, refused, said, item_said, only_create, no_stream, no_object, bad_time, outside, blocked, bad_document, no_routing, long_key, conflict, full, key_cause}
 
 abbrev schema : Schema
 schema = record {
@@ -147,8 +154,10 @@ pub eighth_cause : outcome false (object (member (codes "@timestamp") (number (u
 unfolding time_fault time_of leaf.leaves_of document_cells fault_at
 eighth_cause = refl
 
-pub ninth_cause : by_key (codes "a") (first_index false) (pos 1600) [] (Err (KeyTooLong 4105)) ≡ barred (long_key 4105)
-ninth_cause = refl
+pub ninth_cause : (i : PlainIndex) (cells : List Cell) → keyed i.facts.mapping.schema cells ≡ Err (KeyTooLong 4105) → by_cells (codes "a") i (pos 1600) (Ok cells) ≡ barred (long_key 4105)
+ninth_cause i cells is =
+    let same = same_with_causes key_cause (keyed i.facts.mapping.schema cells) (keys_caused i.facts.mapping.schema cells) in
+    ap (by_key (codes "a") i (pos 1600) cells) (same.error (KeyTooLong 4105) (long_key 4105) is refl)
 
 pub tenth_cause : outcome false (document 98 1100 1) ≡ barred (conflict (id_of (key 98) (pos 1100)))
 unfolding time_fault time_of leaf.leaves_of document_cells fault_at is_utf8 chars encode_utf8
@@ -350,6 +359,40 @@ step_over = refl
 pub step_generations : rollover (ending (pos 20000) 999_999) (codes "s") ≡ told (ending (pos 20000) 999_999) (argues (codes "limit of [generations] reached"))
 step_generations = refl
 
+-- with other indices beside the two of s
+abbrev crowded : List PlainIndex → Machine
+crowded is = record plain { catalog = record (two true None []) { indices = first_index true ∷ record { facts = last_facts; rows = [] } ∷ is } }
+
+abbrev crowd : List PlainIndex → PlainFacts
+crowd is = facts_of (crowded is).catalog
+
+pub step_indices : (is : List PlainIndex) → nat_le most_indices (length (crowd is).indices) ≡ true → rollover (crowded is) (codes "s") ≡ told (crowded is) (argues (codes "limit of [indices] reached"))
+step_indices is most = rw most refl
+
+-- a next index whose name is taken
+pub step_next_taken : (is : List PlainIndex) → nat_le most_indices (length (crowd is).indices) ≡ false → is_taken (next_name (stream None) (pos 15000)) (crowd is) ≡ true →
+    rollover (crowded is) (codes "s") ≡ told (crowded is) (refused (cause.name_taken (next_name (stream None) (pos 15000))))
+step_next_taken is room held = rw (room, held) refl
+
+-- a fold for which there is no room
+pub step_fold_many : (is : List PlainIndex) → is_taken (codes "c") (crowd is) ≡ false → nat_le most_indices (length (crowd is).indices) ≡ true →
+    downsample_by plain_way (crowded is) (codes "a") (codes "c") (Some second) ≡ told (crowded is) (argues (codes "limit of [indices] reached"))
+step_fold_many is free most = rw (free, most) refl
+
+-- new streams, of any machine: too many streams, too many indices, and a first index whose name is taken
+pub step_streams : (m : Machine) → is_taken (codes "s") (facts_of m.catalog) ≡ false → is_some (template_for (codes "s") m.catalog.templates) ≡ true →
+    nat_le most_streams (length m.catalog.streams) ≡ true → put_stream m (codes "s") ≡ told m (argues (codes "limit of [streams] reached"))
+step_streams m free there most = rw (free, there, most) refl
+
+pub step_first_indices : (m : Machine) → is_taken (codes "s") (facts_of m.catalog) ≡ false → is_some (template_for (codes "s") m.catalog.templates) ≡ true →
+    nat_le most_streams (length m.catalog.streams) ≡ false → nat_le most_indices (length (facts_of m.catalog).indices) ≡ true → put_stream m (codes "s") ≡ told m (argues (codes "limit of [indices] reached"))
+step_first_indices m free there room most = rw (free, there, room, most) refl
+
+pub step_first_taken : (m : Machine) → is_taken (codes "s") (facts_of m.catalog) ≡ false → is_some (template_for (codes "s") m.catalog.templates) ≡ true →
+    nat_le most_streams (length m.catalog.streams) ≡ false → nat_le most_indices (length (facts_of m.catalog).indices) ≡ false → is_taken (first_name (codes "s") m.now) (facts_of m.catalog) ≡ true →
+    put_stream m (codes "s") ≡ told m (refused (cause.name_taken (first_name (codes "s") m.now)))
+step_first_taken m free there few room held = rw (free, there, few, room, held) refl
+
 -- templates, of whatever body
 pub step_changed : (body : Data) → template_refusal (facts_of (two false None [])) (template_of (codes "t") body) ≡ Some (ChangedField (codes "p") (codes "i")) →
     put_template plain (codes "t") body None ≡ told plain (argues (codes "field [p] is mapped in another way in [i]"))
@@ -378,19 +421,19 @@ told_refused asking = refl
 abbrev kept_at : ℕ → ℤ → Machine
 kept_at done now = record (folding done) { kept = true; now = now }
 
-pub told_flush : (asking : Asking) (method target body : List ℕ) → request_of method target body ≡ Ok flush →
+pub told_flush : (asking : Asking) (method target body : List ℕ) → reading_of method target body ≡ Ok flush →
     message_told asking plain_way (kept_at 0 (pos 15000)) (pos 16000) method target body ≡ record { reply = ack; stepped = kept_at 0 (pos 16000); after = kept_at 1 (pos 16000); wrote = true }
 unfolding message_told step unit_of
 told_flush asking method target body is = rw is refl
 
 -- so the records are those of the machine before its unit
-pub written_flush : (asking : Asking) (method target body : List ℕ) → request_of method target body ≡ Ok flush →
+pub written_flush : (asking : Asking) (method target body : List ℕ) → reading_of method target body ≡ Ok flush →
     last_written asking plain_way None (standing (kept_at 0 (pos 15000))) (sends method target body ∷ works ∷ []) ≡ Some (kept_at 0 (pos 15000))
 unfolding message_told step unit_of
 written_flush asking method target body is = rw is refl
 
 -- one that comes at a moment of its own makes that the present, and is told by it
-pub written_later : (asking : Asking) (method target body : List ℕ) → request_of method target body ≡ Ok flush →
+pub written_later : (asking : Asking) (method target body : List ℕ) → reading_of method target body ≡ Ok flush →
     last_written asking plain_way None (standing (kept_at 0 (pos 15000))) (comes method target body (pos 16000) ∷ []) ≡ Some (kept_at 0 (pos 16000))
 unfolding message_told step unit_of
 written_later asking method target body is = rw is refl
@@ -654,6 +697,14 @@ mapped_text = refl
 
 pub limit_text : (said (cause.limit Streams)).reason ≡ codes "limit of [streams] reached"
 limit_text = refl
+
+pub buckets_text : (said cause.too_many_buckets).reason ≡ codes "more than [65536] buckets"
+unfolding digits
+buckets_text = refl
+
+pub hits_text : (said (cause.window_too_large 10001)).reason ≡ codes "from + size must be at most [10000] but was [10001]"
+unfolding digits
+hits_text = refl
 
 pub conflict_text : (item_said (conflict (codes "id"))).reason ≡ codes "[id]: version conflict, document already exists"
 conflict_text = refl

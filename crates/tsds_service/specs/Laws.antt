@@ -6,18 +6,24 @@ use Rattle.bulk_json.specs.declared.items.Item.{Item}
 use Rattle.edge_face.specs.Limits.{body_limit}
 use Rattle.rest_request.specs.Asked.{IsAsked}
 use Rattle.rest_request.specs.Message.{Message}
+use Rattle.rest_request.specs.Table.{request_of}
 use Rattle.row_cells.specs.Each.{Each}
 use Rattle.row_cells.specs.Joining.{FieldsAgree}
+use Rattle.row_cells.specs.declared.rows.Cell.{Cell}
+use Rattle.row_cells.specs.declared.schemas.Schema.{Schema}
+use Rattle.series_id.specs.Keys.{keyed}
 use Rattle.stream_catalog.specs.Plain.{PlainIndex, PlainCatalog}
 use Rattle.stream_catalog.specs.Sound.{IsSoundCatalog}
 use Rattle.stream_catalog.specs.Ways.{plain_way, seen_way, see_index, see_catalog}
 use Rattle.stream_catalog.specs.WellNamed.{IsWellNamed}
 use Rattle.time_text.specs.Instant.{IsInstant}
-use Rattle.tsds_service.specs.Bulk.{outcomes_of, after_first}
+use Rattle.tsds_service.specs.Bulk.{key_of, items_of, outcomes_of, after_first}
+use Rattle.tsds_service.specs.CausedLaws.{IsSameWithCauses}
+use Rattle.tsds_service.specs.Causes.{request_cause, bulk_cause, key_cause}
 use Rattle.tsds_service.specs.Machine.{Machine, empty_machine, see, unit, units, IsSound, IsSeen}
-use Rattle.tsds_service.specs.Messages.{see_told, message_told, moment_told}
+use Rattle.tsds_service.specs.Messages.{see_told, reading_of, message_told, moment_told}
 use Rattle.tsds_service.specs.Questions.{Asking, samples_of, target_of}
-use Rattle.tsds_service.specs.Step.{see_stepped, step}
+use Rattle.tsds_service.specs.Requests.{see_stepped, step}
 use Rattle.tsds_service.specs.Turns.{Turn, Standing, see_standing, replies, behind, last_written, IsTurn}
 
 -- what is seen of a sound machine is sound, and seen again itself
@@ -59,6 +65,15 @@ pub record FirstAlike (c : PlainCatalog) (k : ℕ) (items : List Item) : Type 0 
 
 abbrev pub FirstsRefine : Type 0
 FirstsRefine = (m : Machine) (path : Option (List ℕ)) (body : List ℕ) (items : List Item) (k : ℕ) → IsSound m → length body ≤ body_limit → bulk_of path body ≡ Ok items → FirstAlike m.catalog k items
+
+-- ---- causes
+
+-- What requests are told of readings, bulk bodies and keys is what the layers below answer, with causes in the place of errors; and
+-- no definition of theirs refuses without one, as for want of memory.
+pub record CausesStand : Type 0 where
+  pub requests : (method target body : List ℕ) → IsSameWithCauses request_cause (request_of method target body) (reading_of method target body)
+  pub bulks : (path : Option (List ℕ)) (body : List ℕ) → IsSameWithCauses bulk_cause (bulk_of path body) (items_of path body)
+  pub keys : (schema : Schema) (cells : List Cell) → IsSameWithCauses key_cause (keyed schema cells) (key_of schema cells)
 
 -- ---- machines stay sound
 

@@ -1,10 +1,13 @@
 pub mod Machine
+pub mod Limits
 pub mod Causes
+pub mod Caused
+pub mod CausedLaws
 pub mod Bulk
 pub mod Questions
 pub mod Bodies
 pub mod Replies
-pub mod Step
+pub mod Requests
 pub mod Messages
 pub mod Turns
 pub mod Laws

@@ -2,13 +2,14 @@
 use Rattle.std.specs.Prelude.{ℕ, ℤ, int_le, Bool, false, List, Option, Some, None, Result, Ok, Err, if◌then◌else◌}
 use Rattle.rest_request.specs.Message.{Message}
 use Rattle.rest_request.specs.Table.{request_of}
-use Rattle.rest_request.specs.declared.request.RequestError.{RequestError}
 use Rattle.stream_catalog.specs.Ways.{Way}
 use Rattle.time_text.specs.Instant.{instant_of}
-use Rattle.tsds_service.specs.Causes.{refused, request_cause, bad_moment}
+use Rattle.tsds_service.specs.Caused.{with_cause}
+use Rattle.tsds_service.specs.CausedLaws.{requests_caused}
+use Rattle.tsds_service.specs.Causes.{Cause, refused, request_cause, bad_moment}
 use Rattle.tsds_service.specs.Machine.{Machine, see, unit}
 use Rattle.tsds_service.specs.Questions.{Asking}
-use Rattle.tsds_service.specs.Step.{Stepped, step}
+use Rattle.tsds_service.specs.Requests.{Stepped, step}
 use Rattle.tsds_service.specs.declared.reply.Reply.{Reply}
 
 -- the reply, the machine right after the step, the machine after its unit, and whether the first one's records were written
@@ -24,13 +25,17 @@ see_told t = record t { stepped = see t.stepped; after = see t.after }
 abbrev pub told_of : Way → Stepped → Told
 told_of way s = record { reply = s.reply; stepped = s.machine; after = unit way s.machine; wrote = s.wrote }
 
+-- the request that a message is, or why it is none
+abbrev pub reading_of : List ℕ → List ℕ → List ℕ → Result Message Cause
+reading_of method target body = with_cause request_cause (request_of method target body) (requests_caused method target body)
+
 -- a reading that is refused leaves the moment as it was
-abbrev pub told_by : Asking → Way → Machine → ℤ → Result Message RequestError → Told
+abbrev pub told_by : Asking → Way → Machine → ℤ → Result Message Cause → Told
 told_by asking way m now (Ok message) = told_of way (step asking way m message now)
-told_by asking way m now (Err e) = record { reply = refused (request_cause e); stepped = m; after = unit way m; wrote = false }
+told_by asking way m now (Err cause) = record { reply = refused cause; stepped = m; after = unit way m; wrote = false }
 
 unfoldable pub message_told : Asking → Way → Machine → ℤ → List ℕ → List ℕ → List ℕ → Told
-message_told asking way m now method target body = told_by asking way m now (request_of method target body)
+message_told asking way m now method target body = told_by asking way m now (reading_of method target body)
 
 -- ---- moment lines
 

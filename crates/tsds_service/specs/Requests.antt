@@ -1,8 +1,6 @@
--- One step: what a machine replies to a request at a moment, and what it is then.
+-- What a machine replies to a request at a moment, and what it is then: one step.
 use Rattle.std.specs.Prelude.{ℕ, ℤ, Bool, true, false, List, [], Option, Some, None, Result, Ok, Err, if◌then◌else◌}
 use Rattle.std.specs.Option.{option_map}
-use Rattle.bulk_json.specs.Items.{bulk_of}
-use Rattle.bulk_json.specs.declared.errors.BulkError.{BulkError}
 use Rattle.bulk_json.specs.declared.items.Item.{Item}
 use Rattle.downsample_fold.specs.declared.intervals.IntervalError.TheVariants.{NotGreater, NotMultiple}
 use Rattle.lifecycle_swap.specs.Bodies.{lifecycle_of}
@@ -14,19 +12,19 @@ use Rattle.stream_catalog.specs.Lists.{when, on_found, with_found, stream_named,
 use Rattle.stream_catalog.specs.Moves.{moves_refusal, moved_all}
 use Rattle.stream_catalog.specs.Names.{is_taken}
 use Rattle.stream_catalog.specs.Plain.{PlainCatalog, PlainFacts, facts_of}
-use Rattle.stream_catalog.specs.Rounds.{lifecycle_run}
+use Rattle.stream_catalog.specs.Runs.{lifecycle_run}
 use Rattle.stream_catalog.specs.Streams.{template_refusal, template_put, create_refusal, created, named_refusal, stream_deleted, life_set, write_name, rollover_refusal, rolled_over, rolled_names}
 use Rattle.stream_catalog.specs.Ways.{Way}
-use Rattle.stream_catalog.specs.declared.answers.CatalogError.{CatalogError}
-use Rattle.stream_catalog.specs.declared.answers.CatalogError.TheVariants as of_catalog
+use Rattle.stream_catalog.specs.declared.answers.Refusal.{Refusal}
+use Rattle.stream_catalog.specs.declared.answers.Refusal.TheVariants as of_catalog
 use Rattle.time_text.specs.declared.intervals.Interval.{Interval}
 use Rattle.ts_mapping.specs.Faults.{refusal_of}
 use Rattle.ts_mapping.specs.Templates.{template_of}
 use Rattle.ts_mapping.specs.declared.faults.Fault.{Fault}
 use Rattle.tsds_service.specs.Bodies.{fixed_interval_of, moves_of}
-use Rattle.tsds_service.specs.Bulk.{outcomes_of, after_items, bulk_reply}
+use Rattle.tsds_service.specs.Bulk.{items_of, outcomes_of, after_items, bulk_reply}
 use Rattle.tsds_service.specs.Causes as cause
-use Rattle.tsds_service.specs.Causes.{Cause, refused, bulk_cause}
+use Rattle.tsds_service.specs.Causes.{Cause, refused}
 use Rattle.tsds_service.specs.Machine.{Machine, see}
 use Rattle.tsds_service.specs.Questions.{Asking, facts_in, samples_of, target_of, get_reply}
 use Rattle.tsds_service.specs.Replies.{ack, interval_word, stream_reply, rolled_reply, blocked_reply, ran_reply, tasks_reply}
@@ -65,8 +63,8 @@ pub record About : Type 0 where
   pub by : List ℕ
   pub had : List ℕ
 
--- no catalogue refuses for want of memory
-abbrev pub catalog_cause : About → CatalogError → Cause
+-- what a refusal is told as
+abbrev pub catalog_cause : About → Refusal → Cause
 catalog_cause a (of_catalog.NoSuchName name) = cause.no_such_name name
 catalog_cause a (of_catalog.NameTaken name) = cause.name_taken name
 catalog_cause a of_catalog.NoTemplate = cause.no_template a.name
@@ -82,7 +80,6 @@ catalog_cause a (of_catalog.BadWindow stream index) = cause.bad_window index str
 catalog_cause a (of_catalog.Limit what) = cause.limit what
 catalog_cause a of_catalog.TimeOver = cause.time_over a.index
 catalog_cause a (of_catalog.ChangedField path index) = cause.changed_field path index
-catalog_cause a of_catalog.NoMemory = cause.bad_body
 
 -- what asks for a new name alone
 abbrev pub about_name : List ℕ → About
@@ -91,7 +88,7 @@ about_name name = record { name = name; index = []; by = []; had = [] }
 abbrev pub about_index : List ℕ → About
 about_index index = record { name = []; index = index; by = []; had = [] }
 
-abbrev pub caused : About → Option CatalogError → Option Cause
+abbrev pub caused : About → Option Refusal → Option Cause
 caused a refusal = option_map (catalog_cause a) refusal
 
 -- ---- templates and streams
@@ -143,7 +140,7 @@ abbrev pub about_fold : PlainFacts → List ℕ → List ℕ → Interval → Ab
 about_fold f source target by = record { name = target; index = source; by = interval_word by; had = had_word f source }
 
 -- names are looked at before the body, and the rest behind it
-abbrev pub fold_names_refusal : PlainFacts → List ℕ → List ℕ → Option CatalogError
+abbrev pub fold_names_refusal : PlainFacts → List ℕ → List ℕ → Option Refusal
 fold_names_refusal f source target = on_found (facts_named source f.indices) (of_catalog.NoSuchName source) (λ i. when (is_taken target f) (of_catalog.NameTaken target))
 
 abbrev pub downsample_by : Way → Machine → List ℕ → List ℕ → Option Interval → Stepped
@@ -159,8 +156,8 @@ modify m body =
 
 -- ---- documents
 
-abbrev pub bulk : Way → Machine → Result (List Item) BulkError → Stepped
-bulk way m (Err e) = told m (refused (bulk_cause e))
+abbrev pub bulk : Way → Machine → Result (List Item) Cause → Stepped
+bulk way m (Err cause) = told m (refused cause)
 bulk way m (Ok items) = changed m (bulk_reply items (outcomes_of way m.catalog items)) (after_items way m.catalog items)
 
 -- ---- questions
@@ -192,7 +189,7 @@ step_of asking way m (asked.put_template name body) = put_template m name body (
 step_of asking way m (asked.put_stream name) = put_stream m name
 step_of asking way m (asked.get_stream name) = get_stream m name
 step_of asking way m (asked.delete_stream name) = delete_stream m name
-step_of asking way m (asked.bulk path body) = bulk way m (bulk_of path body)
+step_of asking way m (asked.bulk path body) = bulk way m (items_of path body)
 step_of asking way m (asked.rollover name) = rollover m name
 step_of asking way m (asked.block n) = block m n
 step_of asking way m (asked.downsample source target body) = downsample_by way m source target (fixed_interval_of body)

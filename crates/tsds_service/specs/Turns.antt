@@ -9,7 +9,7 @@ use Rattle.time_text.specs.Instant.{IsInstant}
 use Rattle.tsds_service.specs.Machine.{Machine, see, unit}
 use Rattle.tsds_service.specs.Messages.{Told, message_told, MomentTold, moment_told}
 use Rattle.tsds_service.specs.Questions.{Asking}
-use Rattle.tsds_service.specs.Step.{Stepped, step}
+use Rattle.tsds_service.specs.Requests.{Stepped, step}
 use Rattle.tsds_service.specs.declared.reply.Reply.{Reply}
 
 pub data Turn : Type 0 where

@@ -1,7 +1,7 @@
 //! The laws that tie a plain machine to what is seen of it, for crates above.
 ghost use Rattle.tsds_service.specs.Laws.{SamplesStay, SeenAgain, StepsRefine, StepsStand, UnitsRefine, UnitsStand};
 ghost use Rattle.tsds_service.specs.Laws.{EmptyIsSeen, ManyUnitsKeepSeen, ManyUnitsKeepSound, ManyUnitsRefine, ManyUnitsStand, StepsKeepSeen, StepsKeepSound, UnitsKeepSeen, UnitsKeepSound};
-ghost use Rattle.tsds_service.specs.Laws.{FirstsRefine, MessagesRefine, MomentsAreInstants, TargetsAgree, TurnsRefine, TurnsStand};
+ghost use Rattle.tsds_service.specs.Laws.{CausesStand, FirstsRefine, MessagesRefine, MomentsAreInstants, TargetsAgree, TurnsRefine, TurnsStand};
 
 use stream_catalog::{
     changes_go_through, changes_keep_sound, indices_are_sound, names_keep, seen_again, tests_stay,
@@ -28,6 +28,11 @@ pub fn targets_agree()
 {
     indices_are_sound();
 }
+
+/// What requests are told of readings, bulk bodies and keys is what the layers below answer, with causes in the place of errors.
+pub fn causes_stand()
+    ensures { CausesStand }
+{}
 
 /// The step of what is seen of a sound machine is what is seen of its step, and has the same reply; so is its unit.
 pub fn steps_refine()

@@ -5,7 +5,7 @@ mod laws;
 mod reply;
 
 pub use laws::{
-    first_items, machines_are_seen, machines_begin, many_units, messages, samples_stay, steps_keep,
-    steps_refine, steps_stand, targets_agree, turns, units_keep,
+    causes_stand, first_items, machines_are_seen, machines_begin, many_units, messages,
+    samples_stay, steps_keep, steps_refine, steps_stand, targets_agree, turns, units_keep,
 };
 pub use reply::Reply;
