@@ -30,3 +30,4 @@ mod TestLemmas
 mod TaskLemmas
 mod NameLemmas
 mod NamedKeptLemmas
+mod FoundLemmas

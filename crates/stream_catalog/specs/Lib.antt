@@ -13,4 +13,5 @@ pub mod Units
 pub mod Sound
 pub mod FactTests
 pub mod Laws
+pub mod FoundLaws
 pub mod Examples

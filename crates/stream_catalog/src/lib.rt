@@ -4,10 +4,12 @@
 
 mod answers;
 mod facts;
+mod found_laws;
 mod laws;
 
 pub use answers::{CatalogError, Move, PickError, Ran, Refusal, Rolled, What};
 pub use facts::{HeldIndex, StreamFacts, TaskFacts};
+pub use found_laws::streams_are_found;
 pub use laws::{
     changes_go_through, changes_keep_sound, facts_are_tested, indices_are_sound, names_keep,
     removals_end_tasks, rollovers_join, seen_again, seen_stays, shown_rows, tasks_keep, tests_stay,

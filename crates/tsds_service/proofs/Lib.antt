@@ -11,3 +11,4 @@ mod SoundLemmas
 mod UnitLemmas
 mod TurnLemmas
 mod FirstLemmas
+mod OrderLemmas

@@ -11,4 +11,5 @@ pub mod Requests
 pub mod Messages
 pub mod Turns
 pub mod Laws
+pub mod TargetLaws
 pub mod Examples

@@ -3,9 +3,11 @@
 
 mod laws;
 mod reply;
+mod target_laws;
 
 pub use laws::{
     causes_stand, first_items, machines_are_seen, machines_begin, many_units, messages,
     samples_stay, steps_keep, steps_refine, steps_stand, targets_agree, turns, units_keep,
 };
 pub use reply::Reply;
+pub use target_laws::{targets_ascend, targets_stay};
