@@ -12,3 +12,4 @@ mod UnitLemmas
 mod TurnLemmas
 mod FirstLemmas
 mod OrderLemmas
+mod MessageLemmas

@@ -12,4 +12,5 @@ pub mod Messages
 pub mod Turns
 pub mod Laws
 pub mod TargetLaws
+pub mod MessageLaws
 pub mod Examples
