@@ -12,4 +12,5 @@ mod UnitLemmas
 mod TurnLemmas
 mod FirstLemmas
 mod OrderLemmas
+mod GivenUpLemmas
 mod MessageLemmas

@@ -10,7 +10,10 @@ pub mod Replies
 pub mod Requests
 pub mod Messages
 pub mod Turns
+pub mod GivenUp
 pub mod Laws
 pub mod TargetLaws
 pub mod MessageLaws
+pub mod GivenUpLaws
 pub mod Examples
+pub mod GivenUpExamples

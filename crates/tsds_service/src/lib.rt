@@ -1,11 +1,13 @@
 //! What the store answers: the machine that a script or a link speaks to, as definitions, and the structs that they cite.
 #![tactic(auto)]
 
+mod given_up_laws;
 mod laws;
 mod message_laws;
 mod reply;
 mod target_laws;
 
+pub use given_up_laws::{given_up_keep, given_up_refine};
 pub use laws::{
     causes_stand, first_items, machines_are_seen, machines_begin, many_units, messages,
     samples_stay, steps_keep, steps_refine, steps_stand, targets_agree, turns, units_keep,
