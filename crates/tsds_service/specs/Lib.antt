@@ -11,9 +11,11 @@ pub mod Requests
 pub mod Messages
 pub mod Turns
 pub mod GivenUp
+pub mod NoIncrease
 pub mod Laws
 pub mod TargetLaws
 pub mod MessageLaws
 pub mod GivenUpLaws
 pub mod Examples
+pub mod IncreaseExamples
 pub mod GivenUpExamples
