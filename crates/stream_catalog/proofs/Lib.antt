@@ -31,3 +31,4 @@ mod TaskLemmas
 mod NameLemmas
 mod NamedKeptLemmas
 mod FoundLemmas
+mod KeptRowLemmas

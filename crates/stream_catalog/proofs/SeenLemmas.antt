@@ -74,7 +74,7 @@ buckets_meet schema start end by rows are = elim are [
   | inr folds ↦ folds.meet
 ]
 
-folds_meet : (schema : Schema) (start end : ℤ) (by : Interval) (rows : List Row) → AreRaw schema start end rows ⊎ AreFolds schema start end (ms_of by) rows →
+pub folds_meet : (schema : Schema) (start end : ℤ) (by : Interval) (rows : List Row) → AreRaw schema start end rows ⊎ AreFolds schema start end (ms_of by) rows →
     Each (λ row. Meets (ms_of by) start end (bucket_start (ms_of by) row.time)) (down schema rows (ms_of by))
 folds_meet schema start end by rows are =
     down_times (λ t. Meets (ms_of by) start end (bucket_start (ms_of by) t)) schema rows (ms_of by)

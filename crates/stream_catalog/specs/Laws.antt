@@ -5,7 +5,6 @@ use Rattle.std.specs.Option.{option_map}
 use Rattle.row_cells.specs.declared.rows.Row.{Row}
 use Rattle.row_cells.specs.Each.{Each}
 use Rattle.row_cells.specs.Joining.{FieldsAgree}
-use Rattle.row_cells.specs.KeyedRows.{AreRowsOf}
 use Rattle.row_cells.specs.RowLists.{AreDistinct, has_place, in_row_order}
 use Rattle.time_text.specs.Instant.{IsInstant}
 use Rattle.time_text.specs.declared.intervals.Interval.{Interval}
@@ -131,10 +130,6 @@ UnitsGoThrough = (c : PlainCatalog) → IsSoundCatalog c → see_catalog (unit_o
 -- what a task keeps of what is shown is what it keeps of all rows
 abbrev pub TasksKeep : Type 0
 TasksKeep = (c : PlainCatalog) → IsSoundCatalog c → Each (λ task. (i : PlainIndex) → index_named task.index c.indices ≡ Some i → kept_rows task (see_index i) ≡ kept_rows task i) c.tasks
-
--- an index that is seen again itself has rows of its schema
-abbrev pub ShownRows : Type 0
-ShownRows = (c : PlainCatalog) (n : List ℕ) (i : PlainIndex) → IsSeenCatalog c → index_named n c.indices ≡ Some i → AreRowsOf i.facts.mapping.schema i.rows
 
 -- ---- what units, rollovers and removals leave
 

@@ -14,4 +14,5 @@ pub mod Sound
 pub mod FactTests
 pub mod Laws
 pub mod FoundLaws
+pub mod RowLaws
 pub mod Examples

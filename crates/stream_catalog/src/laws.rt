@@ -1,5 +1,5 @@
 //! The laws that tie a plain catalogue to what is seen of it, for crates above.
-ghost use Rattle.stream_catalog.specs.Laws.{FoundIsSound, Keeps, LookupsStay, PutsKeepShowing, SoundShows, SeenAgain, FactsStay, ChangesGoThrough, RunsGoThrough, PutsGoThrough, RowTestsStay, SeriesStay, DownsamplesGoThrough, UnitsGoThrough, TasksKeep, ShownRows};
+ghost use Rattle.stream_catalog.specs.Laws.{FoundIsSound, Keeps, LookupsStay, PutsKeepShowing, SoundShows, SeenAgain, FactsStay, ChangesGoThrough, RunsGoThrough, PutsGoThrough, RowTestsStay, SeriesStay, DownsamplesGoThrough, UnitsGoThrough, TasksKeep};
 ghost use Rattle.stream_catalog.specs.Laws.{FoundIsHeld, FoundAgree, UnitsGoOn, NamesKeep, UnitsEnd, UnitsCount, UnitsFinish, TaskRowsStay, FactsAreTested, NamesAreTested, RolloversJoin, RemovalsEndTasks};
 ghost use Rattle.stream_catalog.specs.Laws.{BlocksKeepSound, CreationsKeepSound, DeletionsKeepSound, DownsamplesKeepSound, LivesKeepSound, MovesKeepSound, PutsKeepSound, RolloversKeepSound, RunsKeepSound, StreamDeletionsKeepSound, TemplatesKeepSound, UnitsKeepSound};
 
@@ -91,9 +91,4 @@ pub fn changes_keep_sound()
 pub fn facts_are_tested()
     ensures facts { FactsAreTested }
     ensures names { NamesAreTested }
-{}
-
-/// The rows of an index that is seen again itself fit its schema, in order, and are few.
-pub fn shown_rows()
-    ensures { ShownRows }
 {}

@@ -6,12 +6,14 @@ mod answers;
 mod facts;
 mod found_laws;
 mod laws;
+mod row_laws;
 
 pub use answers::{CatalogError, Move, PickError, Ran, Refusal, Rolled, What};
 pub use facts::{HeldIndex, StreamFacts, TaskFacts};
 pub use found_laws::streams_are_found;
 pub use laws::{
     changes_go_through, changes_keep_sound, facts_are_tested, indices_are_sound, names_keep,
-    removals_end_tasks, rollovers_join, seen_again, seen_stays, shown_rows, tasks_keep, tests_stay,
+    removals_end_tasks, rollovers_join, seen_again, seen_stays, tasks_keep, tests_stay,
     units_go_on,
 };
+pub use row_laws::{kept_are_rows, shown_rows};
