@@ -1,10 +1,10 @@
--- Messages for what code holds.
+-- Messages for what code holds, and where a run begins.
 use Rattle.std.specs.Prelude.{◌≡◌}
 use Rattle.std.proofs.Common.{ap, ◌∙◌, sym, subst}
 use Rattle.stream_catalog.specs.Ways.{plain_way, seen_way}
 use Rattle.tsds_service.specs.Laws.{SeenAgain, MessagesRefine}
 use Rattle.tsds_service.specs.Machine.{Machine, IsSeen}
-use Rattle.tsds_service.specs.MessageLaws.{MessagesStand}
+use Rattle.tsds_service.specs.MessageLaws.{MessagesStand, RunsBegin}
 use Rattle.tsds_service.specs.Messages.{Told, see_told, message_told}
 
 pub messages_stand : SeenAgain → MessagesRefine → MessagesStand
@@ -18,3 +18,9 @@ messages_stand again refine asking m now method target body seen is_now short =
       stepped = subst (λ (t : Told). IsSeen t.stepped) (sym told) (again plain.stepped alike.stepped);
       after = subst (λ (t : Told). IsSeen t.after) (sym told) (again plain.after alike.after);
     }
+
+pub runs_begin : RunsBegin
+runs_begin = record {
+  sound = λ m sound. record { machine = sound; present = sound.now };
+  seen = λ m seen. record { machine = seen; present = seen.sound.now };
+}

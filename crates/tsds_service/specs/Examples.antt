@@ -61,7 +61,7 @@ use Rattle.tsds_service.specs.Questions.{Asking, facts_in, joined_fields, sample
 use Rattle.tsds_service.specs.Replies.{ack, interval_word, ran_reply, rolled_reply, tasks_reply}
 use Rattle.tsds_service.specs.Requests.{told, put_template, put_stream, rollover, block, delete_index, downsample_by, get_document, modify, run_lifecycle, step}
 use Rattle.tsds_service.specs.declared.reply.Reply.{Reply}
-use Rattle.tsds_service.specs.Turns.{asks, sends, comes, works, Standing, replies, behind, last_written}
+use Rattle.tsds_service.specs.Turns.{asks, sends, comes, works, standing_of, replies, behind, last_written}
 use Rattle.tsds_service.specs.Bulk.{Outcome, taken, barred, after_outcome, by_document, by_cells, by_key, by_place, item_outcome, outcomes_of, item_tree, bulk_reply}
 use Rattle.tsds_service.specs.CausedLaws.{keys_caused, same_with_causes}
 use Rattle.tsds_service.specs.Causes as cause
@@ -408,9 +408,6 @@ step_faulty body = refl
 
 -- ---- messages
 
-abbrev standing : Machine → Standing
-standing m = record { machine = m; present = pos 15000 }
-
 -- a reading that is refused leaves the moment, and the task goes on by a series all the same
 pub told_refused : (asking : Asking) →
     message_told asking plain_way (folding 0) (pos 16000) (codes "GET") (codes "x") [] ≡ record { reply = refused cause.no_such_path; stepped = folding 0; after = folding 1; wrote = false }
@@ -428,13 +425,13 @@ told_flush asking method target body is = rw is refl
 
 -- so the records are those of the machine before its unit
 pub written_flush : (asking : Asking) (method target body : List ℕ) → reading_of method target body ≡ Ok flush →
-    last_written asking plain_way None (standing (kept_at 0 (pos 15000))) (sends method target body ∷ works ∷ []) ≡ Some (kept_at 0 (pos 15000))
+    last_written asking plain_way None (standing_of (kept_at 0 (pos 15000))) (sends method target body ∷ works ∷ []) ≡ Some (kept_at 0 (pos 15000))
 unfolding message_told step unit_of
 written_flush asking method target body is = rw is refl
 
 -- one that comes at a moment of its own makes that the present, and is told by it
 pub written_later : (asking : Asking) (method target body : List ℕ) → reading_of method target body ≡ Ok flush →
-    last_written asking plain_way None (standing (kept_at 0 (pos 15000))) (comes method target body (pos 16000) ∷ []) ≡ Some (kept_at 0 (pos 16000))
+    last_written asking plain_way None (standing_of (kept_at 0 (pos 15000))) (comes method target body (pos 16000) ∷ []) ≡ Some (kept_at 0 (pos 16000))
 unfolding message_told step unit_of
 written_later asking method target body is = rw is refl
 
@@ -498,7 +495,7 @@ offered_fold = refl
 -- ---- turns
 
 -- two units end a fold of two series
-pub units_swap : (asking : Asking) → names (behind asking plain_way (standing (folding 0)) (works ∷ works ∷ [])).machine.catalog ≡ codes "b" ∷ codes "f" ∷ []
+pub units_swap : (asking : Asking) → names (behind asking plain_way (standing_of (folding 0)) (works ∷ works ∷ [])).machine.catalog ≡ codes "b" ∷ codes "f" ∷ []
 unfolding unit_of
 units_swap asking = refl
 
@@ -506,11 +503,11 @@ units_swap asking = refl
 abbrev recorded : ℤ → Machine
 recorded now = record (folding 0) { kept = true; now = now }
 
-pub flush_written : (asking : Asking) → last_written asking plain_way None (standing (recorded (pos 15000))) (asks flush (pos 16000) ∷ works ∷ []) ≡ Some (recorded (pos 16000))
+pub flush_written : (asking : Asking) → last_written asking plain_way None (standing_of (recorded (pos 15000))) (asks flush (pos 16000) ∷ works ∷ []) ≡ Some (recorded (pos 16000))
 unfolding step unit_of
 flush_written asking = refl
 
-pub flush_told : (asking : Asking) → replies asking plain_way (standing (recorded (pos 15000))) (works ∷ asks flush (pos 16000) ∷ []) ≡ ack ∷ []
+pub flush_told : (asking : Asking) → replies asking plain_way (standing_of (recorded (pos 15000))) (works ∷ asks flush (pos 16000) ∷ []) ≡ ack ∷ []
 unfolding step unit_of
 flush_told asking = refl
 

@@ -29,6 +29,10 @@ pub record Standing : Type 0 where
   pub machine : Machine
   pub present : ℤ
 
+-- where a run begins: at the machine's own moment
+abbrev pub standing_of : Machine → Standing
+standing_of m = record { machine = m; present = m.now }
+
 abbrev pub see_standing : Standing → Standing
 see_standing s = record s { machine = see s.machine }
 

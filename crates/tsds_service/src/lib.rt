@@ -12,6 +12,6 @@ pub use laws::{
     causes_stand, first_items, machines_are_seen, machines_begin, many_units, messages,
     samples_stay, steps_keep, steps_refine, steps_stand, targets_agree, turns, units_keep,
 };
-pub use message_laws::messages_stand;
+pub use message_laws::{messages_stand, runs_begin};
 pub use reply::Reply;
 pub use target_laws::{targets_ascend, targets_stay};

@@ -1,5 +1,5 @@
 //! The laws on messages for what code holds, for crates above.
-ghost use Rattle.tsds_service.specs.MessageLaws.{MessagesStand};
+ghost use Rattle.tsds_service.specs.MessageLaws.{MessagesStand, RunsBegin};
 
 use crate::laws::{machines_are_seen, messages};
 
@@ -11,3 +11,8 @@ pub fn messages_stand()
     machines_are_seen();
     messages();
 }
+
+/// A run that begins at a sound machine's own moment begins soundly.
+pub fn runs_begin()
+    ensures { RunsBegin }
+{}
