@@ -5,10 +5,10 @@ use Rattle.std.specs.Fmt.{digits}
 use Rattle.std.specs.Option.{is_some, option_map}
 use Rattle.edge_face.specs.Limits.{last_instant}
 use Rattle.row_cells.specs.declared.scalars.Scalar.TheVariants.{Whole, Word}
-use Rattle.row_cells.specs.declared.rows.Cell.TheVariants.{One}
+use Rattle.row_cells.specs.declared.rows.Cell.TheVariants.{Absent, One}
 use Rattle.row_cells.specs.declared.rows.Row.{Row}
-use Rattle.row_cells.specs.declared.schemas.FieldType.TheVariants.{Keyword, Long, Integer}
-use Rattle.row_cells.specs.declared.schemas.Role.TheVariants.{Dimension, Counter, Label}
+use Rattle.row_cells.specs.declared.schemas.FieldType.TheVariants.{Date, Keyword, Long, Integer}
+use Rattle.row_cells.specs.declared.schemas.Role.TheVariants.{Time, Dimension, Counter, Gauge}
 use Rattle.row_cells.specs.declared.schemas.Schema.{Schema}
 use Rattle.time_text.specs.declared.intervals.Interval.{Interval}
 use Rattle.time_text.specs.declared.units.Unit.TheVariants.{S}
@@ -41,44 +41,45 @@ use Rattle.stream_catalog.specs.Runs.{lifecycle_run}
 use Rattle.stream_catalog.specs.Streams.{template_refusal, create_refusal, first_name, created, named_refusal, stream_deleted, rollover_refusal, next_name, rolled_over}
 use Rattle.stream_catalog.specs.Units.{unit_of}
 
-abbrev schema : Schema
+abbrev pub schema : Schema
 schema = record {
-  fields = record { path = codes "host"; kind = Keyword; role = Dimension }
+  fields = record { path = codes "@timestamp"; kind = Date; role = Time }
+      ∷ record { path = codes "host"; kind = Keyword; role = Dimension }
       ∷ record { path = codes "req"; kind = Long; role = Counter } ∷ [];
-  routing = 0 ∷ [];
+  routing = 1 ∷ [];
   folded = false;
   rises = true;
 }
 
-abbrev mapping : Mapping
+abbrev pub mapping : Mapping
 mapping = record { strict = true; shards = 1; schema = schema }
 
 -- the keys of hosts a and b
 abbrev key : ℕ → List ℕ
 key host = 0 ∷ 4 ∷ 104 ∷ 111 ∷ 115 ∷ 116 ∷ 1 ∷ 0 ∷ 1 ∷ host ∷ []
 
-abbrev row_at : ℕ → ℕ → ℕ → Row
-row_at host time value = record { key = key host; time = pos time; count = 1; cells = One (Word (host ∷ [])) ∷ One (Whole (pos value)) ∷ [] }
+abbrev pub row_at : ℕ → ℕ → ℕ → Row
+row_at host time value = record { key = key host; time = pos time; count = 1; cells = Absent ∷ One (Word (host ∷ [])) ∷ One (Whole (pos value)) ∷ [] }
 
-abbrev seconds : (n : ℕ) → 1 ≤ n * 1000 → n * 1000 ≤ longest → Interval
+abbrev pub seconds : (n : ℕ) → 1 ≤ n * 1000 → n * 1000 ≤ longest → Interval
 seconds n some few = record { number = n; unit = S; in_range = (some, few) }
 
-abbrev second : Interval
+abbrev pub second : Interval
 second = seconds 1 (omega arith) (omega arith)
 
-abbrev old_facts : Bool → HeldIndex
+abbrev pub old_facts : Bool → HeldIndex
 old_facts blocked = record { name = codes "a"; origin = codes "a"; template = codes "t"; start = pos 0; end = pos 10000; blocked = blocked; interval = None; mapping = mapping }
 
-abbrev new_facts : HeldIndex
+abbrev pub new_facts : HeldIndex
 new_facts = record { name = codes "b"; origin = codes "b"; template = codes "t"; start = pos 10000; end = pos 20000; blocked = false; interval = None; mapping = mapping }
 
-abbrev template : Template
-template = record { name = codes "t"; patterns = codes "s" ∷ []; priority = 0; strict = true; shards = 1; look_back = pos 30000; look_ahead = pos 60000; schema = schema }
+abbrev pub template : Template
+template = record { name = codes "t"; patterns = codes "s" ∷ []; priority = 0; strict = true; shards = 1; look_back = pos 60000; look_ahead = pos 60000; schema = schema }
 
-abbrev stream : Option Lifecycle → PlainStream
+abbrev pub stream : Option Lifecycle → PlainStream
 stream life = record { facts = record { name = codes "s"; template = codes "t"; generation = 2; members = codes "a" ∷ codes "b" ∷ [] }; life = life }
 
-abbrev two : Bool → Option Lifecycle → List TaskFacts → PlainCatalog
+abbrev pub two : Bool → Option Lifecycle → List TaskFacts → PlainCatalog
 two blocked life tasks = record {
   templates = template ∷ [];
   streams = stream life ∷ [];
@@ -89,10 +90,10 @@ two blocked life tasks = record {
 abbrev numbers : PlainCatalog → List ℕ
 numbers c = map (λ i. length i.rows) c.indices
 
-abbrev index_names : PlainCatalog → List (List ℕ)
+abbrev pub index_names : PlainCatalog → List (List ℕ)
 index_names c = map (λ i. i.facts.name) c.indices
 
-abbrev windows : PlainCatalog → List (ℤ × ℤ)
+abbrev pub windows : PlainCatalog → List (ℤ × ℤ)
 windows c = map {B = ℤ × ℤ} (λ i. (i.facts.start, i.facts.end)) c.indices
 
 -- a put, in either way
@@ -141,7 +142,7 @@ unfolding down bucket_start
 fold_seen = refl
 
 -- a task of two series: after one unit all is as before, after two the fold stands in the stream
-abbrev task_of : List ℕ → List ℕ → ℕ → Bool → TaskFacts
+abbrev pub task_of : List ℕ → List ℕ → ℕ → Bool → TaskFacts
 task_of index target done rises = record { index = index; target = target; by = second; done = done; rises = rises }
 
 abbrev folding : ℕ → PlainCatalog
@@ -208,10 +209,10 @@ pub all_gone : numbers (stream_deleted (folding 1) (codes "s")) ≡ []
 all_gone = refl
 
 -- a first index begins as far before the present as its template looks back, at the earliest at 0, and ends as far behind it as that looks ahead
-abbrev streamless : PlainCatalog
+abbrev pub streamless : PlainCatalog
 streamless = record { templates = template ∷ []; streams = []; indices = []; tasks = [] }
 
-pub created_window : windows (created streamless (codes "s") (pos 100000)) ≡ (pos 70000, pos 160000) ∷ []
+pub created_window : windows (created streamless (codes "s") (pos 100000)) ≡ (pos 40000, pos 160000) ∷ []
 unfolding pattern_takes
 created_window = refl
 
@@ -230,10 +231,10 @@ unfolding backing_name day_text
 rolled_early = refl
 
 -- a lifecycle run extends the write index, and starts a fold, or deletes where the retention is over
-abbrev keeping : Option Lifecycle
+abbrev pub keeping : Option Lifecycle
 keeping = Some (record { retention = None; rounds = record { after = second; by = second } ∷ [] })
 
-abbrev dropping : Option Lifecycle
+abbrev pub dropping : Option Lifecycle
 dropping = Some (record { retention = Some second; rounds = [] })
 
 pub run_starts : (lifecycle_run (two false keeping []) (pos 15000)).ran ≡ record { extended = 1; deleted = 0; started = 1 }
@@ -374,13 +375,13 @@ unit_none_task = refl
 
 -- ---- a run over two streams, with a task under way: streams go by their names, and new tasks stand behind those that are there
 
-abbrev other_stream : PlainStream
+abbrev pub other_stream : PlainStream
 other_stream = record { facts = record { name = codes "r"; template = codes "t"; generation = 2; members = codes "p" ∷ codes "q" ∷ [] }; life = keeping }
 
 abbrev other_facts : List ℕ → HeldIndex → HeldIndex
 other_facts name facts = record facts { name = name; origin = name }
 
-abbrev two_streams : PlainCatalog
+abbrev pub two_streams : PlainCatalog
 two_streams = record (two false keeping (task_of (codes "z") (codes "y") 0 true ∷ [])) {
   streams = other_stream ∷ stream keeping ∷ [];
   indices = record { facts = old_facts false; rows = [] } ∷ record { facts = new_facts; rows = [] } ∷ record { facts = other_facts (codes "p") (old_facts false); rows = [] }
@@ -545,10 +546,18 @@ abbrev remapped : List ℕ → Schema → Template
 remapped name other = record template { name = name; schema = other }
 
 abbrev other_count : Schema
-other_count = record schema { fields = record { path = codes "host"; kind = Keyword; role = Dimension } ∷ record { path = codes "req"; kind = Integer; role = Counter } ∷ [] }
+other_count = record schema {
+  fields = record { path = codes "@timestamp"; kind = Date; role = Time }
+      ∷ record { path = codes "host"; kind = Keyword; role = Dimension }
+      ∷ record { path = codes "req"; kind = Integer; role = Counter } ∷ [];
+}
 
 abbrev other_both : Schema
-other_both = record schema { fields = record { path = codes "host"; kind = Keyword; role = Label } ∷ record { path = codes "req"; kind = Integer; role = Counter } ∷ [] }
+other_both = record schema {
+  fields = record { path = codes "@timestamp"; kind = Date; role = Time }
+      ∷ record { path = codes "host"; kind = Long; role = Dimension }
+      ∷ record { path = codes "req"; kind = Long; role = Gauge } ∷ [];
+}
 
 -- the first index of its name is told, and of two paths the least
 pub put_changed : template_refusal (facts_of (two false None [])) (remapped (codes "t") other_count) ≡ Some (ChangedField (codes "req") (codes "a"))

@@ -16,3 +16,5 @@ pub mod Laws
 pub mod FoundLaws
 pub mod RowLaws
 pub mod Examples
+pub mod ChangeExamples
+pub mod OrderExamples
