@@ -1,8 +1,8 @@
 -- Bodies of lifecycles, worked out.
-use Rattle.std.proofs.Common.{◌≡◌, Bool, ℕ, List, [], ◌∷◌, Option, Some, None, true, false, refl, codes}
+use Rattle.std.proofs.Common.{◌≡◌, ℕ, List, [], ◌∷◌, Option, Some, None, true, false, refl, codes}
 use Rattle.std.specs.Prelude.{map, length, nat_le}
 use Rattle.std.specs.Option.{option_map}
-use Rattle.serde_json.specs.Data.{Data, null, boolean, number, string, array, object, unsigned, Items, no_items, item, no_members, member}
+use Rattle.serde_json.specs.Data.{Data, null, boolean, number, string, array, object, unsigned, no_items, item, no_members, member}
 use Rattle.time_text.specs.Interval.{interval_in, ms_of}
 use Rattle.time_text.specs.Interval as time
 use Rattle.time_text.specs.Unit.{unit_of}

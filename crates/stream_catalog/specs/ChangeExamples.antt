@@ -1,5 +1,5 @@
 -- What single changes leave, on the machine of `Examples`: what they are about is changed, and all else is as it was.
-use Rattle.std.proofs.Common.{◌≡◌, Bool, ℕ, pos, List, [], ◌∷◌, Option, Some, None, true, false, refl, codes}
+use Rattle.std.proofs.Common.{◌≡◌, Bool, ℕ, pos, List, [], ◌∷◌, Some, None, true, false, refl, codes}
 use Rattle.std.specs.Prelude.{ℤ, ◌++◌, map}
 use Rattle.index_names.specs.Patterns.{pattern_takes}
 use Rattle.index_names.specs.Backing.{backing_name}
@@ -9,14 +9,15 @@ use Rattle.row_cells.specs.declared.schemas.FieldType.TheVariants.{Date, Keyword
 use Rattle.row_cells.specs.declared.schemas.Role.TheVariants.{Time, Dimension, Counter, Gauge}
 use Rattle.row_cells.specs.declared.schemas.Schema.{Schema}
 use Rattle.ts_mapping.specs.declared.templates.Template.{Template}
-use Rattle.stream_catalog.specs.Examples.{schema, mapping, second, old_facts, new_facts, template, stream, two, index_names, windows, task_of, keeping, dropping, other_stream, two_streams, streamless}
-use Rattle.stream_catalog.specs.Indices.{blocked_in}
-use Rattle.stream_catalog.specs.Lists.{template_name, stream_name}
+use Rattle.stream_catalog.specs.Examples.{schema, mapping, second, old_facts, new_facts, template, stream, two, index_names, windows, task_of, keeping, other_stream, two_streams, streamless}
+use Rattle.stream_catalog.specs.Indices.{blocked_in, downsampled}
+use Rattle.stream_catalog.specs.Lists.{stream_name}
 use Rattle.stream_catalog.specs.Plain.{PlainStream, PlainCatalog}
 use Rattle.stream_catalog.specs.Rounds.{lifecycle_run}
 use Rattle.stream_catalog.specs.Streams.{template_put, created, first_name, stream_deleted, life_set, next_name, rolled_over}
+use Rattle.stream_catalog.specs.Units.{unit_of}
+use Rattle.stream_catalog.specs.Ways.{plain_way}
 use Rattle.stream_catalog.specs.declared.facts.HeldIndex.{HeldIndex}
-use Rattle.stream_catalog.specs.declared.facts.TaskFacts.{TaskFacts}
 
 -- ---- a block: the index takes no documents, and all else stays; so also where it took none
 
@@ -34,6 +35,33 @@ block_alone = refl
 
 pub block_again : blocked_in (two true None []) (codes "a") ≡ two true None []
 block_again = refl
+
+-- ---- a fold has the window, template and origin of its index; it has the interval, is blocked, and keeps the form of its kind
+
+abbrev fold_facts : List ℕ → HeldIndex
+fold_facts name = record (old_facts true) { name = name; interval = Some second; mapping = record mapping { schema = record schema { folded = true } } }
+
+abbrev held : PlainCatalog → List HeldIndex
+held c = map (λ i. i.facts) c.indices
+
+abbrev membered : PlainCatalog → List (List (List ℕ))
+membered c = map (λ (s : PlainStream). s.facts.members) c.streams
+
+-- asked for, it stands beside its index and in no stream
+pub fold_beside : held (downsampled plain_way (two true None []) (codes "a") (codes "c") second) ≡ old_facts true ∷ new_facts ∷ fold_facts (codes "c") ∷ []
+fold_beside = refl
+
+pub fold_of_none : membered (downsampled plain_way (two true None []) (codes "a") (codes "c") second) ≡ (codes "a" ∷ codes "b" ∷ []) ∷ []
+fold_of_none = refl
+
+-- by a task, it stands in the place of its index, and in its stream
+pub swap_facts : held (unit_of plain_way (two true None (task_of (codes "a") (codes "f") 1 true ∷ []))) ≡ new_facts ∷ fold_facts (codes "f") ∷ []
+unfolding unit_of
+swap_facts = refl
+
+pub swap_member : membered (unit_of plain_way (two true None (task_of (codes "a") (codes "f") 1 true ∷ []))) ≡ (codes "f" ∷ codes "b" ∷ []) ∷ []
+unfolding unit_of
+swap_member = refl
 
 -- ---- a template that is put
 
@@ -183,9 +211,6 @@ next_facts now = record {
   interval = None;
   mapping = record { strict = false; shards = 4; schema = wider };
 }
-
-abbrev held : PlainCatalog → List HeldIndex
-held c = map (λ i. i.facts) c.indices
 
 -- the indices that are there keep their own
 pub rolled_index : held (rolled (pos 25000)) ≡ next_facts (pos 25000) ∷ old_facts false ∷ new_facts ∷ []

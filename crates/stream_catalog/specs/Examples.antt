@@ -58,7 +58,7 @@ mapping = record { strict = true; shards = 1; schema = schema }
 abbrev key : ℕ → List ℕ
 key host = 0 ∷ 4 ∷ 104 ∷ 111 ∷ 115 ∷ 116 ∷ 1 ∷ 0 ∷ 1 ∷ host ∷ []
 
-abbrev pub row_at : ℕ → ℕ → ℕ → Row
+abbrev row_at : ℕ → ℕ → ℕ → Row
 row_at host time value = record { key = key host; time = pos time; count = 1; cells = Absent ∷ One (Word (host ∷ [])) ∷ One (Whole (pos value)) ∷ [] }
 
 abbrev pub seconds : (n : ℕ) → 1 ≤ n * 1000 → n * 1000 ≤ longest → Interval
@@ -234,7 +234,7 @@ rolled_early = refl
 abbrev pub keeping : Option Lifecycle
 keeping = Some (record { retention = None; rounds = record { after = second; by = second } ∷ [] })
 
-abbrev pub dropping : Option Lifecycle
+abbrev dropping : Option Lifecycle
 dropping = Some (record { retention = Some second; rounds = [] })
 
 pub run_starts : (lifecycle_run (two false keeping []) (pos 15000)).ran ≡ record { extended = 1; deleted = 0; started = 1 }

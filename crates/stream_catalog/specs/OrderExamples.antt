@@ -1,5 +1,5 @@
 -- Which refusal is told where two hold: of folds and of changed templates, on the machine of `Examples`.
-use Rattle.std.proofs.Common.{◌≡◌, Bool, ℕ, pos, List, [], ◌∷◌, Option, Some, None, true, false, refl, arith, codes}
+use Rattle.std.proofs.Common.{◌≡◌, Bool, pos, List, [], ◌∷◌, Some, None, true, false, refl, arith, codes}
 use Rattle.std.specs.Prelude.{length, nat_le}
 use Rattle.downsample_fold.specs.declared.intervals.IntervalError.TheVariants.{NotGreater, NotMultiple}
 use Rattle.row_cells.specs.declared.schemas.FieldType.TheVariants.{Date, Keyword, Long}
@@ -11,7 +11,6 @@ use Rattle.stream_catalog.specs.Indices.{downsample_refusal, folded_mapping}
 use Rattle.stream_catalog.specs.Names.{most_indices, is_taken}
 use Rattle.stream_catalog.specs.Plain.{PlainFacts, facts_of}
 use Rattle.stream_catalog.specs.Streams.{template_refusal}
-use Rattle.stream_catalog.specs.declared.answers.CatalogError.{CatalogError}
 use Rattle.stream_catalog.specs.declared.answers.CatalogError.TheVariants.{NameTaken, NotBlocked, Interval as BadInterval, Limit, ChangedField}
 use Rattle.stream_catalog.specs.declared.answers.What.TheVariants.{Indices}
 use Rattle.stream_catalog.specs.declared.facts.HeldIndex.{HeldIndex}

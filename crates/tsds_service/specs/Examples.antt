@@ -67,7 +67,7 @@ use Rattle.tsds_service.specs.CausedLaws.{keys_caused, same_with_causes}
 use Rattle.tsds_service.specs.Causes as cause
 use Rattle.tsds_service.specs.Causes.{Cause, ItemCause, wrong, reply_of, refused, said, item_said, only_create, no_stream, no_object, bad_time, outside, blocked, bad_document, no_routing, long_key, conflict, full, key_cause}
 
-abbrev schema : Schema
+abbrev pub schema : Schema
 schema = record {
   fields = record { path = codes "@timestamp"; kind = Date; role = Time }
       ∷ record { path = codes "host"; kind = Keyword; role = Dimension }
@@ -77,32 +77,32 @@ schema = record {
   rises = true;
 }
 
-abbrev mapping : Mapping
+abbrev pub mapping : Mapping
 mapping = record { strict = true; shards = 1; schema = schema }
 
 -- the key of a host whose name is one byte
 abbrev key : ℕ → List ℕ
 key host = 0 ∷ 4 ∷ 104 ∷ 111 ∷ 115 ∷ 116 ∷ 1 ∷ 0 ∷ 1 ∷ host ∷ []
 
-abbrev row_at : ℕ → ℕ → ℕ → Row
+abbrev pub row_at : ℕ → ℕ → ℕ → Row
 row_at host time value = record { key = key host; time = pos time; count = 1; cells = Absent ∷ One (Word (host ∷ [])) ∷ One (Whole (pos value)) ∷ [] }
 
-abbrev first_facts : Bool → HeldIndex
+abbrev pub first_facts : Bool → HeldIndex
 first_facts shut = record { name = codes "a"; origin = codes "a"; template = codes "t"; start = pos 0; end = pos 10000; blocked = shut; interval = None; mapping = mapping }
 
-abbrev last_facts : HeldIndex
+abbrev pub last_facts : HeldIndex
 last_facts = record { name = codes "b"; origin = codes "b"; template = codes "t"; start = pos 10000; end = pos 20000; blocked = false; interval = None; mapping = mapping }
 
-abbrev template : Template
+abbrev pub template : Template
 template = record { name = codes "t"; patterns = codes "s" ∷ []; priority = 0; strict = true; shards = 1; look_back = pos 60000; look_ahead = pos 60000; schema = schema }
 
-abbrev stream : Option Lifecycle → PlainStream
+abbrev pub stream : Option Lifecycle → PlainStream
 stream life = record { facts = record { name = codes "s"; template = codes "t"; generation = 2; members = codes "a" ∷ codes "b" ∷ [] }; life = life }
 
-abbrev first_index : Bool → PlainIndex
+abbrev pub first_index : Bool → PlainIndex
 first_index shut = record { facts = first_facts shut; rows = row_at 98 1100 3 ∷ row_at 97 1500 7 ∷ [] }
 
-abbrev two : Bool → Option Lifecycle → List TaskFacts → PlainCatalog
+abbrev pub two : Bool → Option Lifecycle → List TaskFacts → PlainCatalog
 two shut life tasks = record {
   templates = template ∷ [];
   streams = stream life ∷ [];
@@ -112,7 +112,7 @@ two shut life tasks = record {
 
 -- ---- the eleven causes that bar an item, in their order
 
-abbrev item : Option (List ℕ) → Item
+abbrev pub item : Option (List ℕ) → Item
 item source = record { action = Create; stream = codes "s"; source = source }
 
 pub first_cause : item_outcome (two false None []) (record (item None) { action = Index }) ≡ barred only_create
@@ -128,10 +128,10 @@ unfolding item_outcome
 third_cause = refl
 
 -- a document of a host at a time
-abbrev document : ℕ → ℕ → ℕ → Data
+abbrev pub document : ℕ → ℕ → ℕ → Data
 document host time value = object (member (codes "@timestamp") (number (unsigned time)) (member (codes "host") (string (host ∷ [])) (member (codes "req") (number (unsigned value)) no_members)))
 
-abbrev outcome : Bool → Data → Outcome
+abbrev pub outcome : Bool → Data → Outcome
 outcome shut d = by_document (two shut None []) (stream None) d
 
 pub fourth_cause : outcome false (object no_members) ≡ barred (bad_time NoTime)
@@ -188,13 +188,13 @@ barred_left = refl
 
 -- ---- steps
 
-abbrev machine : Bool → Option Lifecycle → List TaskFacts → Machine
+abbrev pub machine : Bool → Option Lifecycle → List TaskFacts → Machine
 machine shut life tasks = record { catalog = two shut life tasks; now = pos 15000; kept = false }
 
-abbrev second : Interval
+abbrev pub second : Interval
 second = record { number = 1; unit = S; in_range = (omega arith, omega arith) }
 
-abbrev names : PlainCatalog → List (List ℕ)
+abbrev pub names : PlainCatalog → List (List ℕ)
 names c = map (λ i. i.facts.name) c.indices
 
 -- a fold stands beside its source; an index that takes documents isn't folded; names are looked at before a body
@@ -223,7 +223,7 @@ three_seconds = record { number = 3; unit = S; in_range = (omega arith, omega ar
 abbrev folded_machine : Machine
 folded_machine = record (machine true None []) {
   catalog = record (two true None []) {
-    indices = record { facts = record (first_facts true) { interval = Some two_seconds }; rows = [] } ∷ record { facts = last_facts; rows = [] } ∷ [];
+    indices = record { facts = record (first_facts true) { interval = Some two_seconds; mapping = folded_mapping true mapping }; rows = [] } ∷ record { facts = last_facts; rows = [] } ∷ [];
   };
 }
 
@@ -237,7 +237,7 @@ pub fold_lesser : downsample_by plain_way folded_machine (codes "a") (codes "c")
 fold_lesser = refl
 
 -- with the last series a fold stands in the place of its index, in its stream too; not before
-abbrev folding : ℕ → Machine
+abbrev pub folding : ℕ → Machine
 folding done = machine true None (record { index = codes "a"; target = codes "f"; by = second; done = done; rises = true } ∷ [])
 
 pub unit_before : unit plain_way (folding 0) ≡ folding 1
@@ -295,7 +295,7 @@ moment_unread = refl
 abbrev argues : List ℕ → Reply
 argues reason = reply_of (wrong 400 (codes "illegal_argument_exception") reason)
 
-abbrev plain : Machine
+abbrev pub plain : Machine
 plain = machine false None []
 
 pub step_nothing : block plain (codes "x") ≡ told plain (reply_of (wrong 404 (codes "index_not_found_exception") (codes "no such index [x]")))
@@ -318,10 +318,10 @@ pub step_open : downsample_by plain_way plain (codes "a") (codes "c") (Some seco
 step_open = refl
 
 -- moves
-abbrev move_of : List ℕ → List ℕ → Data
+abbrev pub move_of : List ℕ → List ℕ → Data
 move_of action index = object (member action (object (member (codes "data_stream") (string (codes "s")) (member (codes "index") (string index) no_members))) no_members)
 
-abbrev move_one : List ℕ → List ℕ → Data
+abbrev pub move_one : List ℕ → List ℕ → Data
 move_one action index = object (member (codes "actions") (array (element (move_of action index) no_items)) no_members)
 
 -- with an index in no stream
