@@ -13,7 +13,7 @@ use Rattle.stream_catalog.specs.Examples.{schema, mapping, second, old_facts, ne
 use Rattle.stream_catalog.specs.Indices.{blocked_in, downsampled}
 use Rattle.stream_catalog.specs.Lists.{stream_name}
 use Rattle.stream_catalog.specs.Plain.{PlainStream, PlainCatalog}
-use Rattle.stream_catalog.specs.Rounds.{lifecycle_run}
+use Rattle.stream_catalog.specs.Runs.{lifecycle_run}
 use Rattle.stream_catalog.specs.Streams.{template_put, created, first_name, stream_deleted, life_set, next_name, rolled_over}
 use Rattle.stream_catalog.specs.Units.{unit_of}
 use Rattle.stream_catalog.specs.Ways.{plain_way}

@@ -8,10 +8,11 @@ use Rattle.row_cells.specs.declared.schemas.Schema.{Schema}
 use Rattle.time_text.specs.declared.intervals.Interval.{Interval}
 use Rattle.stream_catalog.specs.Examples.{schema, mapping, seconds, second, old_facts, new_facts, template, two, task_of}
 use Rattle.stream_catalog.specs.Indices.{downsample_refusal, folded_mapping}
-use Rattle.stream_catalog.specs.Names.{most_indices, is_taken}
+use Rattle.stream_catalog.specs.Limits.{most_indices}
+use Rattle.stream_catalog.specs.Names.{is_taken}
 use Rattle.stream_catalog.specs.Plain.{PlainFacts, facts_of}
 use Rattle.stream_catalog.specs.Streams.{template_refusal}
-use Rattle.stream_catalog.specs.declared.answers.CatalogError.TheVariants.{NameTaken, NotBlocked, Interval as BadInterval, Limit, ChangedField}
+use Rattle.stream_catalog.specs.declared.answers.Refusal.TheVariants.{NameTaken, NotBlocked, Interval as BadInterval, Limit, ChangedField}
 use Rattle.stream_catalog.specs.declared.answers.What.TheVariants.{Indices}
 use Rattle.stream_catalog.specs.declared.facts.HeldIndex.{HeldIndex}
 

@@ -22,7 +22,7 @@ use Rattle.tsds_service.specs.Examples.{mapping, first_facts, last_facts, templa
 use Rattle.tsds_service.specs.Machine.{Machine}
 use Rattle.tsds_service.specs.Questions.{Asking}
 use Rattle.tsds_service.specs.Replies.{ack, blocked_reply, rolled_reply, tasks_reply}
-use Rattle.tsds_service.specs.Step.{told, put_template, put_stream, get_stream, delete_stream, rollover, block, delete_index, modify, step_of}
+use Rattle.tsds_service.specs.Requests.{told, put_template, put_stream, get_stream, delete_stream, rollover, block, delete_index, modify, step_of}
 
 -- ---- a stream of two members: the first folded, under a name that stands behind that of the other, and the second not
 

@@ -3,8 +3,10 @@ use Rattle.std.specs.Char.{encode_utf8}
 use Rattle.std.specs.Str.{is_utf8, chars}
 use Rattle.std.specs.Prelude.{Err, Ok, length, nat_le, ◌&&◌, if◌then◌else◌}
 use Rattle.std.specs.Option.{option_map}
-use Rattle.std.proofs.Common.{◌≡◌, Bool, ℕ, pos, List, [], ◌∷◌, Option, Some, None, true, false, refl, codes}
+use Rattle.std.proofs.Common.{◌≡◌, Bool, ℕ, pos, List, [], ◌∷◌, Option, Some, None, true, false, refl, ap, ◌∙◌, codes}
 use Rattle.bulk_json.specs.Items.{bulk_of}
+use Rattle.bulk_json.specs.declared.errors.BulkError.{BulkError}
+use Rattle.bulk_json.specs.declared.items.Item.{Item}
 use Rattle.bulk_json.specs.declared.errors.BulkError.TheVariants.{BadAction, MissingSource, Empty}
 use Rattle.json_walk.specs.Leaves as leaf
 use Rattle.lifecycle_swap.specs.Bodies.{lifecycle_of}
@@ -22,14 +24,15 @@ use Rattle.time_text.specs.Interval.{interval_in, ms_of}
 use Rattle.time_text.specs.Interval as time
 use Rattle.time_text.specs.Unit.{unit_of}
 use Rattle.tsds_service.specs.Bodies.{fixed_interval_of, moves_in, moves_of}
-use Rattle.tsds_service.specs.Bulk.{taken, item_outcome, bulk_reply}
+use Rattle.tsds_service.specs.Bulk.{taken, item_outcome, items_of, bulk_reply}
+use Rattle.tsds_service.specs.CausedLaws.{bulks_caused, same_with_causes}
 use Rattle.tsds_service.specs.Causes as cause
-use Rattle.tsds_service.specs.Causes.{refused}
+use Rattle.tsds_service.specs.Causes.{Cause, refused, bulk_cause}
 use Rattle.tsds_service.specs.Examples.{row_at, first_facts, last_facts, first_index, two, item, document, machine, plain, move_of, move_one}
 use Rattle.tsds_service.specs.Machine.{Machine}
 use Rattle.tsds_service.specs.Questions.{Asking, samples_of}
 use Rattle.tsds_service.specs.Replies.{ack}
-use Rattle.tsds_service.specs.Step.{told, modify, put_lifecycle, step_of}
+use Rattle.tsds_service.specs.Requests.{told, bulk, modify, put_lifecycle, step_of}
 
 -- ---- the interval of a downsampling
 
@@ -171,17 +174,23 @@ life_empty = refl
 
 -- ---- a bulk request whose body has a fault leaves the machine, and tells the line
 
+items_refused : (path : Option (List ℕ)) (body : List ℕ) (e : BulkError) (c : Cause) → bulk_of path body ≡ Err e → bulk_cause e ≡ Some c → items_of path body ≡ Err c
+items_refused path body e c is told = (same_with_causes bulk_cause (bulk_of path body) (bulks_caused path body)).error e c is told
+
+items_taken : (path : Option (List ℕ)) (body : List ℕ) (items : List Item) → bulk_of path body ≡ Ok items → items_of path body ≡ Ok items
+items_taken path body items is = (same_with_causes bulk_cause (bulk_of path body) (bulks_caused path body)).value items is
+
 pub bulk_action : (asking : Asking) (way : Way) (m : Machine) (path : Option (List ℕ)) (body : List ℕ) → bulk_of path body ≡ Err (BadAction 3) →
     step_of asking way m (asked.bulk path body) ≡ told m (refused (cause.bad_action 3))
-bulk_action asking way m path body is = rw is refl
+bulk_action asking way m path body is = ap (bulk way m) (items_refused path body (BadAction 3) (cause.bad_action 3) is refl)
 
 pub bulk_source : (asking : Asking) (way : Way) (m : Machine) (path : Option (List ℕ)) (body : List ℕ) → bulk_of path body ≡ Err (MissingSource 7) →
     step_of asking way m (asked.bulk path body) ≡ told m (refused (cause.missing_source 7))
-bulk_source asking way m path body is = rw is refl
+bulk_source asking way m path body is = ap (bulk way m) (items_refused path body (MissingSource 7) (cause.missing_source 7) is refl)
 
 pub bulk_empty : (asking : Asking) (way : Way) (m : Machine) (path : Option (List ℕ)) (body : List ℕ) → bulk_of path body ≡ Err Empty →
     step_of asking way m (asked.bulk path body) ≡ told m (refused cause.no_items)
-bulk_empty asking way m path body is = rw is refl
+bulk_empty asking way m path body is = ap (bulk way m) (items_refused path body Empty cause.no_items is refl)
 
 -- one that is taken puts a row, and tells the index
 pub bulk_taken : (asking : Asking) (path : Option (List ℕ)) (body source : List ℕ) → bulk_of path body ≡ Ok (item (Some source) ∷ []) → object_of source ≡ Some (document 97 1600 1) →
@@ -191,7 +200,7 @@ pub bulk_taken : (asking : Asking) (path : Option (List ℕ)) (body source : Lis
       wrote = false;
     }
 unfolding item_outcome time_fault time_of leaf.leaves_of document_cells fault_at is_utf8 chars encode_utf8
-bulk_taken asking path body source items is = rw (items, is) refl
+bulk_taken asking path body source items is = ap (bulk plain_way plain) (items_taken path body (item (Some source) ∷ []) items) ∙ rw is refl
 
 -- ---- searches and counts: of a name that nothing has, of a stream, and of an index
 

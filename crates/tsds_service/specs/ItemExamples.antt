@@ -1,6 +1,6 @@
 -- Which cause bars an item where two of them hold, and which keys are too long, on the machine of `Examples`.
 use Rattle.std.specs.Prelude.{Err, Ok, length}
-use Rattle.std.proofs.Common.{◌≡◌, ℕ, pos, List, [], ◌∷◌, Option, Some, None, true, false, refl, codes}
+use Rattle.std.proofs.Common.{◌≡◌, ℕ, pos, List, [], ◌∷◌, Option, Some, None, true, false, refl, ap, ◌∙◌, codes}
 use Rattle.bulk_json.specs.declared.action.Action.TheVariants.{Index, Update, Delete}
 use Rattle.json_walk.specs.Leaves as leaf
 use Rattle.rest_request.specs.Body.{object_of}
@@ -12,13 +12,15 @@ use Rattle.row_cells.specs.declared.scalars.Scalar.TheVariants.{Word}
 use Rattle.row_cells.specs.declared.schemas.Schema.{Schema}
 use Rattle.serde_json.specs.Data.{Data, null, boolean, number, array, object, unsigned, no_items, item as element, no_members, member}
 use Rattle.series_id.specs.Keys.{keyed}
+use Rattle.series_id.specs.declared.keys.KeyError.{KeyError}
 use Rattle.series_id.specs.declared.keys.KeyError.TheVariants.{NoRouting, KeyTooLong}
 use Rattle.stream_catalog.specs.Plain.{PlainIndex, PlainStream}
 use Rattle.synthetic_source.specs.Document.{document_cells}
 use Rattle.synthetic_source.specs.Faults.{fault_at, time_fault, time_of}
 use Rattle.synthetic_source.specs.declared.errors.DocKind.TheVariants.{NoTime, BadTime, Unmapped, WrongType}
-use Rattle.tsds_service.specs.Bulk.{barred, taken, by_cells, by_document, by_index, item_outcome}
-use Rattle.tsds_service.specs.Causes.{only_create, no_stream, no_object, bad_time, outside, bad_document, no_routing, long_key}
+use Rattle.tsds_service.specs.Bulk.{barred, taken, by_cells, by_document, by_index, by_key, key_of, item_outcome}
+use Rattle.tsds_service.specs.CausedLaws.{keys_caused, same_with_causes}
+use Rattle.tsds_service.specs.Causes.{ItemCause, key_cause, only_create, no_stream, no_object, bad_time, outside, bad_document, no_routing, long_key}
 use Rattle.tsds_service.specs.Examples.{schema, first_facts, stream, two, item, document, outcome}
 
 -- ---- the action comes before the stream, and that before the source
@@ -116,16 +118,22 @@ longest word is = rw is refl
 pub too_long : (word : List ℕ) → length (series_bytes schema (of_host word)) ≡ 4097 → keyed schema (of_host word) ≡ Err (KeyTooLong 4097)
 too_long word is = rw is refl
 
+key_refused : (s : Schema) (cells : List Cell) (e : KeyError) (c : ItemCause) → keyed s cells ≡ Err e → key_cause e ≡ Some c → key_of s cells ≡ Err c
+key_refused s cells e c is told = (same_with_causes key_cause (keyed s cells) (keys_caused s cells)).error e c is told
+
+key_taken : (s : Schema) (cells : List Cell) (key : List ℕ) → keyed s cells ≡ Ok key → key_of s cells ≡ Ok key
+key_taken s cells key is = (same_with_causes key_cause (keyed s cells) (keys_caused s cells)).value key is
+
 -- an item of such a key, whatever rows its index has
 abbrev with_rows : List Row → PlainIndex
 with_rows rows = record { facts = first_facts false; rows = rows }
 
 pub ninth_by_key : (rows : List Row) (word : List ℕ) → length (series_bytes schema (of_host word)) ≡ 4097 → by_cells (codes "a") (with_rows rows) (pos 1600) (Ok (of_host word)) ≡ barred (long_key 4097)
-ninth_by_key rows word is = rw is refl
+ninth_by_key rows word is = ap (by_key (codes "a") (with_rows rows) (pos 1600) (of_host word)) (key_refused schema (of_host word) (KeyTooLong 4097) (long_key 4097) (too_long word is) refl)
 
 pub ninth_by_document : (d : Data) (rows : List Row) (word : List ℕ) → document_cells schema true d ≡ Ok (of_host word) → length (series_bytes schema (of_host word)) ≡ 4097 →
     by_index (codes "a") (with_rows rows) (pos 1600) d ≡ barred (long_key 4097)
-ninth_by_document d rows word cells is = rw (cells, is) refl
+ninth_by_document d rows word cells is = ap (by_cells (codes "a") (with_rows rows) (pos 1600)) cells ∙ ninth_by_key rows word is
 
 pub eighth_by_cells : (rows : List Row) → by_cells (codes "a") (with_rows rows) (pos 1600) (Ok (Absent ∷ Absent ∷ Absent ∷ [])) ≡ barred no_routing
 eighth_by_cells rows = refl
@@ -133,4 +141,4 @@ eighth_by_cells rows = refl
 -- and one of the longest key is taken
 pub taken_longest : (word : List ℕ) → length (series_bytes schema (of_host word)) ≡ 4096 →
     by_cells (codes "a") (with_rows []) (pos 1600) (Ok (of_host word)) ≡ taken (codes "a") (record { key = series_bytes schema (of_host word); time = pos 1600; count = 1; cells = of_host word })
-taken_longest word is = rw is refl
+taken_longest word is = ap (by_key (codes "a") (with_rows []) (pos 1600) (of_host word)) (key_taken schema (of_host word) (series_bytes schema (of_host word)) (longest word is))
