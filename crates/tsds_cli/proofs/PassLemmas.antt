@@ -1,17 +1,17 @@
 -- What calls of a reader take of a script: nothing, a line, or its end.
-use Rattle.std.proofs.Common.{◌≡◌, ◌&&◌, ◌∙◌, ℕ, ◌+◌, ◌<◌, ◌≤◌, ◌==◌, ◌⊎◌, inl, inr, Bool, true, false, ◌||◌, nat_lt, cond, List, [], ◌∷◌, ◌++◌, length, take, drop, map, Option, None, Some, IfSome, refl, ap, sym, subst, arith, length-take, append_assoc, append-nil}
+use Rattle.std.proofs.Common.{◌≡◌, ◌&&◌, ◌∙◌, ℕ, ◌+◌, ◌<◌, ◌≤◌, ◌==◌, ◌⊎◌, inl, inr, Bool, true, false, ◌||◌, nat_lt, cond, List, [], ◌∷◌, ◌++◌, length, take, drop, map, Option, None, Some, IfSome, refl, ap, sym, subst, arith, length-append, length-take, append_assoc, append-nil}
 use Rattle.std.specs.List.{filter}
-use Rattle.std.specs.Option.{option_map}
 use Rattle.std.specs.Io.BufRead.{strip_last, ends_with_byte}
 use Rattle.std.proofs.lemmas.Bool.{lt-ltb, ne_eqb, eqb-true}
 use Rattle.std.proofs.lemmas.Bool.Decides.{nat_tests}
-use Rattle.std.proofs.lemmas.List.{take-append-drop}
+use Rattle.std.proofs.lemmas.List.{take-append-drop, nil_from_length}
+use Rattle.std.proofs.Math.Seq.{take-length, drop-length}
 use Rattle.std.specs.Prelude.{IfErr, IsErrAnd, Result}
 use Rattle.std.proofs.lemmas.Result.{err_from_is_err_and}
 use Rattle.edge_face.specs.Contents.{preceded}
 use Rattle.edge_face.specs.Limits.{line_limit, input_limit, body_limit}
 use Rattle.edge_face.specs.Lines.{piece_of, after_piece, pieces_of, line_of, EndsInNewline, EndsInput}
-use Rattle.edge_face.specs.LinesLaws.{piece-none}
+use Rattle.edge_face.specs.LinesLaws.{piece-none, after-none}
 use Rattle.edge_face.specs.Reading.{Reading, ShowsLine, IsTooLong, WaitTooLong, CauseOf, left_of}
 use Rattle.edge_face.specs.declared.reader.LineError.{LineError}
 use Rattle.edge_face.specs.declared.reader.LineError.TheVariants as line
@@ -23,8 +23,8 @@ use Rattle.tsds_cli.specs.declared.errors.RunError.TheVariants.{Read, Write, Sto
 use Rattle.tsds_cli.specs.Errors.{run_error_of}
 use Rattle.tsds_cli.specs.Script.{Place, between, within, closes, next_place, at_end, closed_from, events_from, whole_lines, is_empty, is_skipped, is_moment}
 use Rattle.tsds_cli.specs.Limits.{is_long_piece, is_long_place, is_over, long_from, fine_from, passed_from}
-use Rattle.tsds_cli.specs.Ahead.{Ahead, ahead_in, ahead_of, behind, Leads, Passed, PassesHere, IsAtEnd, Stopped, opened, opens}
-use Rattle.tsds_cli.proofs.PiecesLemmas.{pieces-split, strip-front, piece-front, after-front}
+use Rattle.tsds_cli.specs.Ahead.{Ahead, ahead_in, behind, Leads, MayBeLeft, Passed, PassesHere, IsAtEnd, Stopped, opened, opens}
+use Rattle.tsds_cli.proofs.PiecesLemmas.{pieces-split, strip-front}
 
 -- two pieces in front of what is left
 pub preceded-preceded : (a b : List ℕ) (left : Option (List ℕ)) → preceded a (preceded b left) ≡ preceded (a ++ b) left
@@ -35,39 +35,35 @@ pub preceded-nothing : (left : Option (List ℕ)) → preceded [] left ≡ left
 preceded-nothing None = refl
 preceded-nothing (Some rest) = refl
 
-behind-nothing : (ahead : Option Ahead) → ahead ≡ option_map (behind []) ahead
-behind-nothing None = refl
-behind-nothing (Some a) = refl
-
-behind-behind : (one two : List Event) (ahead : Option Ahead) → option_map (behind one) (option_map (behind two) ahead) ≡ option_map (behind (one ++ two)) ahead
-behind-behind one two None = refl
-behind-behind one two (Some a) =
-    let both : List Event → List Event → Option Ahead = λ e f. Some (record { events = e; fine = f; long = a.long }) in
-    ap (λ e. both e (one ++ (two ++ a.fine))) (sym (append_assoc one two a.events)) ∙ ap (both ((one ++ two) ++ a.events)) (sym (append_assoc one two a.fine))
-
 behind-both : (one two : List Event) (a : Ahead) → behind one (behind two a) ≡ behind (one ++ two) a
 behind-both one two a =
     let both : List Event → List Event → Ahead = λ e f. record { events = e; fine = f; long = a.long } in
     ap (λ e. both e (one ++ (two ++ a.fine))) (sym (append_assoc one two a.events)) ∙ ap (both ((one ++ two) ++ a.events)) (sym (append_assoc one two a.fine))
 
--- the same bytes lie ahead
-ahead_same : (place : Place) (now before : Reading) (new old : Option (List ℕ)) → left_of now new ≡ left_of before old → now.answered ≡ before.answered → ahead_of place now new ≡ ahead_of place before old
-ahead_same place now before new old same counted =
-    let at : ℕ → List ℕ → Ahead = λ n bytes. ahead_in place n (pieces_of bytes) in
-    ap (option_map (at now.answered)) same ∙ ap (λ n. option_map (at n) (left_of before old)) counted
-
--- a look at what comes takes nothing
-pub looked : (place : Place) (before after : Reading) (old new : Option (List ℕ)) → left_of after new ≡ left_of before old → after.answered ≡ before.answered → (after.ended ≡ false → before.ended ≡ false) → Passed place [] place before after old new
-looked place before after old new kept counted still = record {
+-- a look at what comes takes nothing; once the source has ended, what waits stays
+pub looked : (place : Place) (before after : Reading) (old new : Option (List ℕ)) → left_of after new ≡ left_of before old → after.answered ≡ before.answered → (after.ended ≡ false → before.ended ≡ false) → (before.ended ≡ true → after.pending ≡ before.pending)
+    → Passed place [] place before after old new
+looked place before after old new kept counted still stays = record {
   gone = [];
   moved = sym kept ∙ sym (preceded-nothing (left_of after new));
   closed = λ going more. refl;
   short = λ going more. ap (λ n. passed_from place n (pieces_of more)) (sym counted);
-  ahead = sym (ahead_same place after before new old kept counted) ∙ behind-nothing (ahead_of place after new);
-  leads = λ going more. ap (λ n. ahead_in place n (pieces_of more)) (sym counted);
+  leads = λ more may. ap (λ n. ahead_in place n (pieces_of more)) (sym counted);
+  waited = λ ended. sym (stays ended);
   still = still;
   counted = omega (arith, counted);
 }
+
+-- a source that has ended stays so
+ended-on : (before after : Reading) → (after.ended ≡ false → before.ended ≡ false) → before.ended ≡ true → after.ended ≡ true
+ended-on before after still ended = by after.ended still
+  where
+    no : ◌≡◌ {A = Bool} true false → ⊥
+    no h = cc
+
+    by : (b : Bool) → (b ≡ false → before.ended ≡ false) → b ≡ true
+    by true still = refl
+    by false still = absurd (no (sym ended ∙ still refl))
 
 -- first one way, and then another
 pub passed-passed : (one two : List Event) (from middle to : Place) (first second third : Reading) (a b c : Option (List ℕ)) → Passed from one middle first second a b → Passed middle two to second third b c → Passed from (one ++ two) to first third a c
@@ -78,9 +74,9 @@ passed-passed one two from middle to first second third a b c p q = record {
       ap (λ l. closed_from from (whole_lines l)) (append_assoc p.gone q.gone more) ∙ p.closed (q.still going) (q.gone ++ more)
       ∙ ap (λ l. one ++ l) (q.closed going more) ∙ sym (append_assoc one two (closed_from to (whole_lines more)));
   short = λ going more. ap (λ l. passed_from from first.answered (pieces_of l)) (append_assoc p.gone q.gone more) ∙ p.short (q.still going) (q.gone ++ more) ∙ q.short going more;
-  ahead = p.ahead ∙ ap (option_map (behind one)) q.ahead ∙ behind-behind one two (ahead_of to third c);
-  leads = λ going more. ap (λ l. ahead_in from first.answered (pieces_of l)) (append_assoc p.gone q.gone more) ∙ p.leads (q.still going) (q.gone ++ more)
-      ∙ ap (behind one) (q.leads going more) ∙ behind-both one two (ahead_in to third.answered (pieces_of more));
+  leads = λ more may. ap (λ l. ahead_in from first.answered (pieces_of l)) (append_assoc p.gone q.gone more) ∙ p.leads (q.gone ++ more) (λ ended. ap (λ l. q.gone ++ l) (may (ended-on second third q.still ended)) ∙ sym (q.waited ended))
+      ∙ ap (behind one) (q.leads more may) ∙ behind-both one two (ahead_in to third.answered (pieces_of more));
+  waited = λ ended. p.waited ended ∙ ap (λ l. p.gone ++ l) (q.waited (ended-on first second p.still ended)) ∙ sym (append_assoc p.gone q.gone third.pending);
   still = λ going. p.still (q.still going);
   counted = omega (arith, p.counted, q.counted);
 }
@@ -120,6 +116,28 @@ ahead-step place before piece pieces fine =
     } in
     ap at fine
 
+-- bytes that may be left begin with the piece that is shown
+first-shown : (n : ℕ) (shown : Reading) → EndsInNewline n shown.pending ⊎ EndsInput n shown.pending shown.ended → (more : List ℕ) → (shown.ended ≡ true → more ≡ drop n shown.pending)
+    → (piece_of (take n shown.pending ++ more) ≡ take n shown.pending) × (after_piece (take n shown.pending ++ more) ≡ more)
+first-shown n shown (inl e) more may = (e.piece more, e.after more)
+first-shown n shown (inr e) more may =
+    let waits : List ℕ = shown.pending in
+    let all : take n waits ≡ waits = ap (λ k. take k waits) e.all ∙ take-length waits in
+    let none : more ≡ [] = may e.source ∙ ap (λ k. drop k waits) e.all ∙ drop-length waits in
+    let same : take n waits ++ more ≡ waits ++ [] = ap (λ l. l ++ more) all ∙ ap (λ l. waits ++ l) none in
+    (ap piece_of same ∙ piece-none waits [] e.none ∙ append-nil waits ∙ sym all, ap after_piece same ∙ after-none waits [] e.none ∙ sym none)
+
+-- the same behind what waits
+first-left : (n : ℕ) (shown : Reading) → EndsInNewline n shown.pending ⊎ EndsInput n shown.pending shown.ended → (more : List ℕ) → MayBeLeft shown (shown.pending ++ more) → piece_of (shown.pending ++ more) ≡ take n shown.pending
+first-left n shown how more may =
+    let first : List ℕ = take n shown.pending in
+    let later : List ℕ = drop n shown.pending in
+    ap (λ l. piece_of (l ++ more)) (sym (take-append-drop n shown.pending)) ∙ ap piece_of (append_assoc first later more)
+    ∙ (first-shown n shown how (later ++ more) (λ ended. ap (λ l. later ++ l) (nothing (may ended)) ∙ append-nil later)).0
+  where
+    nothing : shown.pending ++ more ≡ shown.pending → more ≡ []
+    nothing same = nil_from_length more (omega (arith, ap length same, length-append shown.pending more))
+
 -- a line that is let go
 pub line-passed : (place : Place) (n : ℕ) (line : List ℕ) (shown after : Reading) (left : Option (List ℕ)) → ShowsLine n shown left → 0 < n → line ≡ line_of (take n shown.pending) → is_long_place (next_place place line) ≡ false
     → after ≡ record { pending = drop n shown.pending; answered = shown.answered + n; refused = shown.refused; ended = shown.ended } → Passed place (closes place line) (next_place place line) shown after left left
@@ -131,8 +149,8 @@ line-passed place n line shown after left shows some is fits passed =
       moved = ap (λ l. preceded l left) (sym (take-append-drop n shown.pending)) ∙ sym (preceded-preceded (take n shown.pending) (drop n shown.pending) left);
       closed = λ going more. by_how going shows.shown.how more;
       short = λ going more. held going shows.shown.how more;
-      ahead = told left shows;
-      leads = λ going. leads_by going shows.shown.how;
+      leads = leads_by shows.shown.how;
+      waited = λ ended. sym (take-append-drop n shown.pending);
       still = λ going. going;
       counted = omega arith;
     }))
@@ -158,27 +176,17 @@ line-passed place n line shown after left shows some is fits passed =
     by_how going (inl e) more = ap (closed_from place) (whole-front n shown.pending more e shows.shown.inside)
     by_how going (inr e) more = absurd (ends-not (sym e.source ∙ going))
 
-    leads_by : shown.ended ≡ false → EndsInNewline n shown.pending ⊎ EndsInput n shown.pending shown.ended
-        → Leads place (closes place (line_of (take n shown.pending))) shown.answered (next_place place (line_of (take n shown.pending))) (shown.answered + n) (take n shown.pending)
-    leads_by going (inr e) more = absurd (ends-not (sym e.source ∙ going))
-    leads_by going (inl e) more =
+    leads_by : EndsInNewline n shown.pending ⊎ EndsInput n shown.pending shown.ended → (more : List ℕ) → (shown.ended ≡ true → more ≡ drop n shown.pending)
+        → Leads place (closes place (line_of (take n shown.pending))) shown.answered (next_place place (line_of (take n shown.pending))) (shown.answered + n) (take n shown.pending) more
+    leads_by how more may =
         let piece : List ℕ = take n shown.pending in
         let next : Place = next_place place (line_of piece) in
         let inside : n ≤ length shown.pending = shows.shown.inside in
         let count : length piece ≡ n = omega (arith, length-take n shown.pending) in
-        ap (ahead_in place shown.answered) (pieces-split (piece ++ more) piece more (e.piece more) (e.after more) (omega (arith, count, some)))
+        let first = first-shown n shown how more may in
+        ap (ahead_in place shown.answered) (pieces-split (piece ++ more) piece more first.0 first.1 (omega (arith, count, some)))
         ∙ ahead-step place shown.answered piece (pieces_of more) (not-over place shown.answered piece shows.short (omega (arith, count, shows.within)) (sym (ap (λ l. is_long_place (next_place place l)) is) ∙ fits))
         ∙ ap (λ k. behind (closes place (line_of piece)) (ahead_in next (shown.answered + k) (pieces_of more))) count
-
-    told : (left : Option (List ℕ)) → ShowsLine n shown left → ahead_of place shown left ≡ option_map (behind (closes place (line_of (take n shown.pending)))) (ahead_of (next_place place (line_of (take n shown.pending))) (record { pending = drop n shown.pending; answered = shown.answered + n; refused = shown.refused; ended = shown.ended }) left)
-    told None shows = refl
-    told (Some rest) shows =
-        let inside : n ≤ length shown.pending = shows.shown.inside in
-        let count : length (take n shown.pending) ≡ n = omega (arith, length-take n shown.pending) in
-        let behind_it : List ℕ = drop n shown.pending ++ rest in
-        ap Some (ap (ahead_in place shown.answered) (pieces-split (shown.pending ++ rest) (take n shown.pending) behind_it shows.shown.piece shows.shown.after (omega (arith, count, some)))
-        ∙ ahead-step place shown.answered (take n shown.pending) (pieces_of behind_it) (not-over place shown.answered (take n shown.pending) shows.short (omega (arith, count, shows.within)) (sym (ap (λ l. is_long_place (next_place place l)) is) ∙ fits))
-        ∙ ap (λ k. behind (closes place (line_of (take n shown.pending))) (ahead_in (next_place place (line_of (take n shown.pending))) (shown.answered + k) (pieces_of behind_it))) count)
 
 -- the end closes what is open
 pub end-passed : (place : Place) (n : ℕ) (shown : Reading) (left : Option (List ℕ)) → ShowsLine n shown left → n ≡ 0 → Passed place (at_end place) between shown shown left left
@@ -187,8 +195,8 @@ end-passed place n shown left shows zero = record {
   moved = sym (preceded-nothing (left_of shown left));
   closed = λ going more. absurd (no (sym (ended shows.shown.how) ∙ going));
   short = λ going more. absurd (no (sym (ended shows.shown.how) ∙ going));
-  ahead = told left shows;
-  leads = λ going more. absurd (no (sym (ended shows.shown.how) ∙ going));
+  leads = λ more may. nothing more (may (ended shows.shown.how) ∙ (shows.shown.none zero).0);
+  waited = λ is. refl;
   still = λ going. going;
   counted = omega arith;
 }
@@ -200,15 +208,12 @@ end-passed place n shown left shows zero = record {
     ended (inl e) = absurd (omega (arith, e.some, zero))
     ended (inr e) = e.source
 
-    told : (left : Option (List ℕ)) → ShowsLine n shown left → ahead_of place shown left ≡ option_map (behind (at_end place)) (ahead_of between shown left)
-    told None shows = refl
-    told (Some rest) shows =
-        let none = shows.shown.none zero in
-        let empty : shown.pending ++ rest ≡ [] = ap (λ l. l ++ rest) none.0 ∙ none.1 in
+    nothing : (more : List ℕ) → more ≡ [] → Leads place (at_end place) shown.answered between shown.answered [] more
+    nothing more empty =
         let at : List Event → List ℕ → Ahead = λ e bytes. record { events = e ++ events_from between (map line_of (pieces_of bytes)); fine = e ++ fine_from between shown.answered (pieces_of bytes); long = long_from between shown.answered (pieces_of bytes) } in
-        ap (λ bytes. Some (ahead_in place shown.answered (pieces_of bytes))) empty
-        ∙ ap (λ e. Some (record { events = e; fine = e; long = false })) (sym (append-nil (at_end place)))
-        ∙ ap (λ bytes. Some (at (at_end place) bytes)) (sym empty)
+        ap (λ bytes. ahead_in place shown.answered (pieces_of bytes)) empty
+        ∙ ap (λ e. record { events = e; fine = e; long = false }) (sym (append-nil (at_end place)))
+        ∙ ap (at (at_end place)) (sym empty)
 
 -- nothing is left
 pub ends-here : (from place : Place) (n : ℕ) (before shown : Reading) (old left : Option (List ℕ)) → Passed from [] place before shown old left → ShowsLine n shown left → n ≡ 0 → IsAtEnd from place before shown old left
@@ -259,23 +264,16 @@ too_long place before (b ∷ all) bytes limit (inr past) =
     (ap (λ v. is_long_piece piece || (v || is_long_place (next_place place (line_of piece)))) (lt-ltb input_limit (before + length piece) past.1)
     ∙ or-true (is_long_piece piece) (is_long_place (next_place place (line_of piece))))
 
--- the same of the bytes that wait, whatever follows them
-waits-long : (shown : Reading) (left : Option (List ℕ)) (bytes : ℕ) → WaitTooLong shown left bytes → shown.ended ≡ false → (more : List ℕ) → IsTooLong shown.answered (shown.pending ++ more) bytes
-waits-long shown left bytes (inl w) going more =
+-- the same of the bytes that wait, whatever may follow them
+waits-long : (shown : Reading) (left : Option (List ℕ)) (bytes : ℕ) → WaitTooLong shown left bytes → (more : List ℕ) → MayBeLeft shown (shown.pending ++ more) → IsTooLong shown.answered (shown.pending ++ more) bytes
+waits-long shown left bytes (inl w) more may =
     inl (omega (arith, strip-front shown.pending (piece_of more) w.0, w.1, ap (λ l. length (strip_last 10 l)) (piece-none shown.pending more w.0)), w.2)
-waits-long shown left bytes (inr p) going more = by p.shown.how
-  where
-    never : ◌≡◌ {A = Bool} true false → ⊥
-    never h = cc
-
-    by : EndsInNewline p.piece shown.pending ⊎ EndsInput p.piece shown.pending shown.ended → IsTooLong shown.answered (shown.pending ++ more) bytes
-    by (inr e) = absurd (never (sym e.source ∙ going))
-    by (inl e) =
-        let piece : piece_of (shown.pending ++ more) ≡ take p.piece shown.pending = piece-front p.piece shown.pending more e in
-        let inside : p.piece ≤ length shown.pending = p.shown.inside in
-        let same = ap (λ l. length (strip_last 10 l)) piece in
-        let count = ap length piece in
-        inr (omega (arith, p.short, same), omega (arith, p.past, count, length-take p.piece shown.pending, inside), p.bytes_is)
+waits-long shown left bytes (inr p) more may =
+    let piece : piece_of (shown.pending ++ more) ≡ take p.piece shown.pending = first-left p.piece shown p.shown.how more may in
+    let inside : p.piece ≤ length shown.pending = p.shown.inside in
+    let same = ap (λ l. length (strip_last 10 l)) piece in
+    let count = ap length piece in
+    inr (omega (arith, p.short, same), omega (arith, p.past, count, length-take p.piece shown.pending, inside), p.bytes_is)
 
 -- why a refused line stops the script
 pub stopped-line : (from place : Place) (error : LineError) (before shown : Reading) (old left : Option (List ℕ)) (count now : ℕ) → Passed from [] place before shown old left → shown.answered ≤ input_limit → CauseOf error shown left count now
@@ -284,40 +282,30 @@ stopped-line from place line.Read before shown old left count now passed limit c
 stopped-line from place (line.TooLong bytes) before shown old left count now passed limit cause = record {
   place = place;
   passed = passed;
-  why = (told left cause.0, λ going more. too_long place shown.answered (shown.pending ++ more) bytes limit (waits-long shown left bytes cause.1 going more));
+  why = λ more may. too_long place shown.answered (shown.pending ++ more) bytes limit (waits-long shown left bytes cause.1 more may);
 }
-  where
-    told : (left : Option (List ℕ)) → IfSome (left_of shown left) (λ all. IsTooLong shown.answered all bytes) → IfSome (ahead_of place shown left) PassesHere
-    told None h = tt
-    told (Some rest) h = too_long place shown.answered (shown.pending ++ rest) bytes limit h
 stopped-line from place line.NoMemory before shown old left count now passed limit cause = record { place = place; passed = passed; why = tt }
 
 -- a body that is too long with its next line
 pub stopped-body : (from : Place) (n : ℕ) (request body line : List ℕ) (before shown : Reading) (old left : Option (List ℕ)) → Passed from [] (within request body) before shown old left → ShowsLine n shown left → 0 < n → is_empty line ≡ false
     → line ≡ line_of (take n shown.pending) → body_limit < length (body ++ (line ++ 10 ∷ [])) → Stopped from TooLong before shown old left
-stopped-body from n request body line before shown old left passed shows some full is over = record { place = within request body; passed = passed; why = (told left shows, λ going. waits going shows.shown.how) }
+stopped-body from n request body line before shown old left passed shows some full is over = record {
+  place = within request body;
+  passed = passed;
+  why = λ more may. first (shown.pending ++ more) (first-left n shown shows.shown.how more may);
+}
   where
-    first : (bytes rest : List ℕ) → n ≤ length shown.pending → piece_of bytes ≡ take n shown.pending → after_piece bytes ≡ rest → PassesHere (ahead_in (within request body) shown.answered (pieces_of bytes))
-    first bytes rest inside piece_is rest_is =
+    first : (bytes : List ℕ) → piece_of bytes ≡ take n shown.pending → PassesHere (ahead_in (within request body) shown.answered (pieces_of bytes))
+    first bytes starts =
         let piece : List ℕ = take n shown.pending in
+        let inside : n ≤ length shown.pending = shows.shown.inside in
         let count : length piece ≡ n = omega (arith, length-take n shown.pending) in
         let long : is_long_place (next_place (within request body) (line_of piece)) ≡ true =
         ap (λ l. is_long_place (next_place (within request body) l)) (sym is)
         ∙ ap (λ v. is_long_place (cond v between (within request (body ++ (line ++ 10 ∷ []))))) full
         ∙ lt-ltb body_limit (length (body ++ (line ++ 10 ∷ []))) over in
-        over-here (within request body) shown.answered bytes piece rest piece_is rest_is (omega (arith, count, some))
+        over-here (within request body) shown.answered bytes piece (after_piece bytes) starts refl (omega (arith, count, some))
         (ap (λ v. is_long_piece piece || (nat_lt input_limit (shown.answered + length piece) || v)) long ∙ or-last (is_long_piece piece) (nat_lt input_limit (shown.answered + length piece)))
-
-    told : (left : Option (List ℕ)) → ShowsLine n shown left → IfSome (ahead_of (within request body) shown left) PassesHere
-    told None shows = tt
-    told (Some rest) shows = first (shown.pending ++ rest) (drop n shown.pending ++ rest) shows.shown.inside shows.shown.piece shows.shown.after
-
-    never : ◌≡◌ {A = Bool} true false → ⊥
-    never h = cc
-
-    waits : shown.ended ≡ false → EndsInNewline n shown.pending ⊎ EndsInput n shown.pending shown.ended → (more : List ℕ) → PassesHere (ahead_in (within request body) shown.answered (pieces_of (shown.pending ++ more)))
-    waits going (inl e) more = first (shown.pending ++ more) (drop n shown.pending ++ more) shows.shown.inside (piece-front n shown.pending more e) (after-front n shown.pending more e)
-    waits going (inr e) more = absurd (never (sym e.source ∙ going))
 
 pub stopped-memory : (from place : Place) (before shown : Reading) (old left : Option (List ℕ)) → Passed from [] place before shown old left → Stopped from NoMemory before shown old left
 stopped-memory from place before shown old left passed = record { place = place; passed = passed; why = tt }

@@ -1,10 +1,9 @@
--- All pieces are the first one, and those of what follows it. Where the first one ends, whatever follows the bytes that wait.
-use Rattle.std.proofs.Common.{◌≡◌, ◌∙◌, ℕ, ◌+◌, ◌-◌, ◌<◌, ◌≤◌, ◌==◌, ◌&&◌, nat_lt, Bool, true, false, cond, List, [], ◌∷◌, ◌++◌, length, take, drop, refl, ap, sym, arith, length-append, length-take, append_assoc, append-nil}
+-- All pieces are the first one, and those of what follows it.
+use Rattle.std.proofs.Common.{◌≡◌, ◌∙◌, ℕ, ◌+◌, ◌-◌, ◌<◌, ◌≤◌, ◌==◌, ◌&&◌, nat_lt, Bool, true, false, cond, List, [], ◌∷◌, ◌++◌, length, take, refl, ap, arith, length-append, length-take, append-nil}
 use Rattle.std.specs.List.{slice_index}
 use Rattle.std.specs.Io.BufRead.{strip_last, ends_with_byte}
 use Rattle.std.proofs.lemmas.Bool.{ne_eqb}
-use Rattle.std.proofs.lemmas.List.{take-append-drop}
-use Rattle.edge_face.specs.Lines.{piece_of, after_piece, pieces_of, with_first, HasNoNewline, EndsInNewline}
+use Rattle.edge_face.specs.Lines.{piece_of, after_piece, pieces_of, with_first, HasNoNewline}
 
 -- a piece and what follows it are all
 pub piece-after : (bytes : List ℕ) → piece_of bytes ++ after_piece bytes ≡ bytes
@@ -59,12 +58,3 @@ strip-front (b ∷ bytes) (c ∷ more) none = by (ends_with_byte 10 ((b ∷ byte
     by : (v : Bool) → length (b ∷ bytes) ≤ length (cond v (take (length ((b ∷ bytes) ++ c ∷ more) - 1) ((b ∷ bytes) ++ c ∷ more)) ((b ∷ bytes) ++ c ∷ more))
     by true = omega (arith, length-take (length ((b ∷ bytes) ++ c ∷ more) - 1) ((b ∷ bytes) ++ c ∷ more), length-append (b ∷ bytes) (c ∷ more))
     by false = omega (arith, length-append (b ∷ bytes) (c ∷ more))
-
--- a piece that ends in a newline is the first, whatever follows the bytes that wait
-pub piece-front : (n : ℕ) (waiting more : List ℕ) → EndsInNewline n waiting → piece_of (waiting ++ more) ≡ take n waiting
-piece-front n waiting more e =
-    ap (λ l. piece_of (l ++ more)) (sym (take-append-drop n waiting)) ∙ ap piece_of (append_assoc (take n waiting) (drop n waiting) more) ∙ e.piece (drop n waiting ++ more)
-
-pub after-front : (n : ℕ) (waiting more : List ℕ) → EndsInNewline n waiting → after_piece (waiting ++ more) ≡ drop n waiting ++ more
-after-front n waiting more e =
-    ap (λ l. after_piece (l ++ more)) (sym (take-append-drop n waiting)) ∙ ap after_piece (append_assoc (take n waiting) (drop n waiting) more) ∙ e.after (drop n waiting ++ more)

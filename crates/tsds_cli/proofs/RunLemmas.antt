@@ -1,7 +1,6 @@
 -- A run of a script, event by event.
 use Rattle.std.proofs.Common.{◌≡◌, ◌∙◌, ℕ, suc, ◌-◌, ◌||◌, ◌≤◌, ◌⊎◌, inl, inr, Bool, true, false, cond, List, [], ◌∷◌, ◌++◌, length, take, map, Option, None, Some, IfSome, refl, ap, sym, subst, arith, append_assoc, append-nil}
 use Rattle.std.specs.List.{filter, concat}
-use Rattle.std.specs.Option.{option_map}
 use Rattle.std.specs.Prelude.{All}
 use Rattle.std.proofs.lemmas.List.Elements.{All-append, All-cons, All-nil}
 use Rattle.std.specs.Prelude.{IfErr, IsErrAnd, Result}
@@ -17,13 +16,13 @@ use Rattle.tsds_cli.specs.Script.{Event}
 use Rattle.tsds_cli.specs.declared.errors.RunError.{RunError}
 use Rattle.tsds_cli.specs.declared.errors.RunError.TheVariants.{Read, Write, Store, TooLong, NoMemory}
 use Rattle.tsds_cli.specs.Script.{Place, between, closed_of, events_of, closed_from, events_from, whole_lines, lines_of}
-use Rattle.tsds_cli.specs.Limits.{is_too_long, is_over, is_long_piece, passed_from, IsShort}
-use Rattle.tsds_cli.specs.Ahead.{Ahead, ahead_in, ahead_of, behind, Passed, PassesHere, IsAtEnd, Stopped}
+use Rattle.tsds_cli.specs.Limits.{is_over, is_long_piece, fine_from, passed_from, IsShort}
+use Rattle.tsds_cli.specs.Ahead.{Ahead, ahead_in, behind, Passed, IsAtEnd, Stopped}
 use Rattle.edge_face.specs.Table.{Table}
 use Rattle.tsds_cli.specs.declared.errors.ActError.TheVariants as act_error
 use Rattle.tsds_cli.specs.declared.errors.ActError.{ActError}
 use Rattle.tsds_cli.specs.Play.{Play, Act, Standing, text_of, with_reply, replies, after_events, written_by, last_written, IsToldAs, IsTable, IsWrittenBy, IsBehind, IsPast, IsRefused}
-use Rattle.tsds_cli.specs.Ends.{EndsBy, Broke, IsPut, Reached, IsFront, IsFine, IsNear, IsStepped, IsUnmade, IsCutBehind, PutFront, PutUnkept, PutPart, PutWhole}
+use Rattle.tsds_cli.specs.Ends.{EndsBy, Broke, IsPut, Reached, IsFront, AreFine, IsFine, IsNear, IsStepped, IsUnmade, IsCutBehind, PutFront, PutUnkept, PutPart, PutWhole}
 use Rattle.tsds_cli.proofs.PassLemmas.{passed-passed, preceded-preceded, preceded-nothing, short_piece}
 use Rattle.tsds_cli.proofs.PiecesLemmas.{not-ended}
 
@@ -66,84 +65,63 @@ none-passed place before (b ∷ bytes) none short =
     ∙ ap (λ v. cond v (is_over place before all) (is_long_piece all) || false) ends
     ∙ ap (λ v. v || false) (short_piece all (omega (arith, same, short)))
 
--- what was taken from the source
+-- what was taken from the source: what a fresh reader went over, and what waits
 taken-is : (es : List Event) (to : Place) (reader : Reading) (script left : Option (List ℕ)) (p : Passed between es to fresh reader script left) → script ≡ preceded (p.gone ++ reader.pending) left
 taken-is es to reader script left p = sym (preceded-nothing script) ∙ p.moved ∙ preceded-preceded p.gone reader.pending left
 
--- what a told script says, once what lies ahead is known
-told-ahead : (es : List Event) (script : Option (List ℕ)) (ahead : Option Ahead) (P : Ahead → Type 0) → ahead_of between fresh script ≡ option_map (behind es) ahead → IfSome ahead P
-    → IfSome script (λ all. (a : Ahead) × (ahead_in between 0 (pieces_of all) ≡ behind es a) × P a)
-told-ahead es None ahead P is h = tt
-told-ahead es (Some all) None P is h = absurd (none is)
+-- what holds of the bytes taken with whatever may follow them holds of these, and of a told script
+of-script : (P : List ℕ → Type 0) (taken : List ℕ) (ended : Bool) (script left : Option (List ℕ)) → script ≡ preceded taken left → KnowsEnd ended left → ((more : List ℕ) → (ended ≡ true → more ≡ []) → P (taken ++ more)) → P taken × IfSome script P
+of-script P taken ended script left is knows holds = (subst P (append-nil taken) (holds [] (λ e. refl)), told script left is knows)
   where
-    none : {y : Ahead} → ◌≡◌ {A = Option Ahead} (Some y) None → ⊥
+    none : {x : List ℕ} → ◌≡◌ {A = Option (List ℕ)} (Some x) None → ⊥
     none e = cc
-told-ahead es (Some all) (Some a) P is h = (a, some is, h)
-  where
-    some : {x y : Ahead} → ◌≡◌ {A = Option Ahead} (Some x) (Some y) → x ≡ y
+
+    some : {x y : List ℕ} → ◌≡◌ {A = Option (List ℕ)} (Some x) (Some y) → x ≡ y
     some e = cc
+
+    told : (script left : Option (List ℕ)) → script ≡ preceded taken left → KnowsEnd ended left → IfSome script P
+    told None left is knows = tt
+    told (Some all) None is knows = absurd (none is)
+    told (Some all) (Some rest) is knows = subst P (sym (some is)) (holds rest knows)
+
+-- what lies ahead at first is what was passed, and what lies ahead then, whatever may follow the bytes taken
+leads-on : (es : List Event) (to : Place) (reader : Reading) (script left : Option (List ℕ)) (p : Passed between es to fresh reader script left) (more : List ℕ) → (reader.ended ≡ true → more ≡ [])
+    → ahead_in between 0 (pieces_of ((p.gone ++ reader.pending) ++ more)) ≡ behind es (ahead_in to reader.answered (pieces_of (reader.pending ++ more)))
+leads-on es to reader script left p more may =
+    ap (λ l. ahead_in between 0 (pieces_of l)) (append_assoc p.gone reader.pending more) ∙ p.leads (reader.pending ++ more) (λ ended. ap (λ l. reader.pending ++ l) (may ended) ∙ append-nil reader.pending)
+
+leads-here : (es : List Event) (to : Place) (reader : Reading) (script left : Option (List ℕ)) (p : Passed between es to fresh reader script left) → ahead_in between 0 (pieces_of (p.gone ++ reader.pending)) ≡ behind es (ahead_in to reader.answered (pieces_of reader.pending))
+leads-here es to reader script left p = p.leads reader.pending (λ ended. refl)
 
 -- the events passed come before the first length
-fine-front : (es : List Event) (to : Place) (reader : Reading) (script left : Option (List ℕ)) → Passed between es to fresh reader script left → IsFine es script
-fine-front es to reader script left p = told script (ahead_of to reader left) p.ahead
+fine-front : (es : List Event) (to : Place) (reader : Reading) (script left : Option (List ℕ)) → KnowsEnd reader.ended left → (p : Passed between es to fresh reader script left) → IsFine es (p.gone ++ reader.pending) script
+fine-front es to reader script left knows p =
+    of-script (AreFine es) (p.gone ++ reader.pending) reader.ended script left (taken-is es to reader script left p) knows
+    (λ more may. (fine_from to reader.answered (pieces_of (reader.pending ++ more)), ap (λ (a : Ahead). a.fine) (leads-on es to reader script left p more may)))
+
+-- the same of a front of them
+fine-less : (es later : List Event) (taken : List ℕ) (script : Option (List ℕ)) → IsFine (es ++ later) taken script → IsFine es taken script
+fine-less es later taken script fine = (less taken fine.0, told script fine.1)
   where
-    none : {y : Ahead} → ◌≡◌ {A = Option Ahead} (Some y) None → ⊥
-    none e = cc
+    less : (bytes : List ℕ) → AreFine (es ++ later) bytes → AreFine es bytes
+    less bytes h = (later ++ h.0, h.1 ∙ append_assoc es later h.0)
 
-    some : {x y : Ahead} → ◌≡◌ {A = Option Ahead} (Some x) (Some y) → x ≡ y
-    some e = cc
-
-    told : (script : Option (List ℕ)) (ahead : Option Ahead) → ahead_of between fresh script ≡ option_map (behind es) ahead → IsFine es script
-    told None ahead is = tt
-    told (Some all) None is = absurd (none is)
-    told (Some all) (Some a) is = (a.fine, ap (λ (a : Ahead). a.fine) (some is))
+    told : (script : Option (List ℕ)) → IfSome script (AreFine (es ++ later)) → IfSome script (AreFine es)
+    told None h = tt
+    told (Some all) h = less all h
 
 -- the events that were done are a front of those that are closed, or of all
-pub front-more : Place → Bool → List ℕ → List Event
-front-more to true pending = events_from to (lines_of pending)
-front-more to false pending = closed_from to (whole_lines pending)
-
-pub fronts : (es : List Event) (to : Place) (reader : Reading) (script left : Option (List ℕ)) → KnowsEnd reader.ended left → Passed between es to fresh reader script left → (more : List Event) × IsFront es more script left
+pub fronts : (es : List Event) (to : Place) (reader : Reading) (script left : Option (List ℕ)) → KnowsEnd reader.ended left → (p : Passed between es to fresh reader script left) → (more : List Event) × IsFront es more (p.gone ++ reader.pending) left
 fronts es to reader script left knows p = by_end reader.ended refl
   where
-    ahead-here : (left : Option (List ℕ)) → IfSome left (λ rest. rest ≡ []) → IfSome (ahead_of to reader left) (λ a. a.events ≡ events_from to (lines_of reader.pending))
-    ahead-here None h = tt
-    ahead-here (Some rest) h = ap (λ l. events_from to (lines_of (reader.pending ++ l))) h ∙ ap (λ l. events_from to (lines_of l)) (append-nil reader.pending)
-
-    read-off : (script : Option (List ℕ)) → IfSome script (λ all. (a : Ahead) × (ahead_in between 0 (pieces_of all) ≡ behind es a) × (a.events ≡ events_from to (lines_of reader.pending))) → IfSome script (λ all. events_of all ≡ es ++ events_from to (lines_of reader.pending))
-    read-off None h = tt
-    read-off (Some all) h = ap (λ (a : Ahead). a.events) h.1 ∙ ap (λ l. es ++ l) h.2
-
-    by_end : (b : Bool) → reader.ended ≡ b → (more : List Event) × IsFront es more script left
-    by_end true is = (
-      events_from to (lines_of reader.pending),
-      record {
-        taken = p.gone ++ reader.pending;
-        taken_is = taken-is es to reader script left p;
-        front = inr (knows is, read-off script (told-ahead es script (ahead_of to reader left) (λ a. a.events ≡ events_from to (lines_of reader.pending)) p.ahead (ahead-here left (knows is))));
-      },
-    )
-    by_end false is = (
-      closed_from to (whole_lines reader.pending),
-      record {
-        taken = p.gone ++ reader.pending;
-        taken_is = taken-is es to reader script left p;
-        front = inl (p.closed is reader.pending);
-      },
-    )
+    by_end : (b : Bool) → reader.ended ≡ b → (more : List Event) × IsFront es more (p.gone ++ reader.pending) left
+    by_end true is = (events_from to (lines_of reader.pending), inr (knows is, ap (λ (a : Ahead). a.events) (leads-here es to reader script left p)))
+    by_end false is = (closed_from to (whole_lines reader.pending), inl (p.closed is reader.pending))
 
 -- one more of them is one less behind them
-pub front-next : (es : List Event) (e : Event) (more : List Event) (script left : Option (List ℕ)) → IsFront (es ++ e ∷ []) more script left → IsFront es (e ∷ more) script left
-front-next es e more script left f = record { taken = f.taken; taken_is = f.taken_is; front = by f.front }
-  where
-    under : (script : Option (List ℕ)) → IfSome script (λ all. events_of all ≡ (es ++ e ∷ []) ++ more) → IfSome script (λ all. events_of all ≡ es ++ e ∷ more)
-    under None h = tt
-    under (Some all) h = h ∙ append_assoc es (e ∷ []) more
-
-    by : (closed_of f.taken ≡ (es ++ e ∷ []) ++ more) ⊎ (IfSome left (λ rest. rest ≡ []) × IfSome script (λ all. events_of all ≡ (es ++ e ∷ []) ++ more))
-        → (closed_of f.taken ≡ es ++ e ∷ more) ⊎ (IfSome left (λ rest. rest ≡ []) × IfSome script (λ all. events_of all ≡ es ++ e ∷ more))
-    by (inl h) = inl (h ∙ append_assoc es (e ∷ []) more)
-    by (inr h) = inr (h.0, under script h.1)
+pub front-next : (es : List Event) (e : Event) (more : List Event) (taken : List ℕ) (left : Option (List ℕ)) → IsFront (es ++ e ∷ []) more taken left → IsFront es (e ∷ more) taken left
+front-next es e more taken left (inl h) = inl (h ∙ append_assoc es (e ∷ []) more)
+front-next es e more taken left (inr h) = inr (h.0, h.1 ∙ append_assoc es (e ∷ []) more)
 
 -- the exit of a `?`
 pub err-ends : {S T : Type 0} (play : Play S) (start now : Standing S) (r : Result T RunError) (e : RunError) (script left given0 given : Option (List ℕ)) → IsErrAnd r (λ y. y ≡ e) → EndsBy play start now e script left given0 given → IfErr r (λ y. EndsBy play start now y script left given0 given)
@@ -206,16 +184,12 @@ module _ {S : Type 0} (play : Play S) where
       moved = sym (preceded-nothing (left_of fresh script));
       closed = λ going more. refl;
       short = λ going more. refl;
-      ahead = none (ahead_of between fresh script);
-      leads = λ going more. refl;
+      leads = λ more may. refl;
+      waited = λ ended. refl;
       still = λ going. going;
       counted = omega arith;
     });
   }
-    where
-      none : (ahead : Option Ahead) → ahead ≡ option_map (behind []) ahead
-      none None = refl
-      none (Some a) = refl
 
   -- their bodies, with one more
   bodies-more : (es : List Event) (e : Event) → All IsShort es → IsShort e → All IsShort (es ++ e ∷ [])
@@ -238,7 +212,17 @@ module _ {S : Type 0} (play : Play S) where
   pub front-of : (start now : Standing S) (reader : Reading) (script left given0 given : Option (List ℕ)) → Reached play start now fresh reader script left given0 given → KnowsEnd reader.ended left → PutFront play start now script left given0 given
   front-of start now reader script left given0 given r knows =
       let f = fronts r.done between reader script left knows r.passed in
-      record { done = r.done; more = f.0; front = f.1; fine = fine-front r.done between reader script left r.passed; bodies = r.bodies; put = r.put; state = inl r.state }
+      record {
+        done = r.done;
+        more = f.0;
+        taken = r.passed.gone ++ reader.pending;
+        taken_is = taken-is r.done between reader script left r.passed;
+        front = f.1;
+        fine = fine-front r.done between reader script left knows r.passed;
+        bodies = r.bodies;
+        put = r.put;
+        state = inl r.state;
+      }
 
   -- no memory for an event that was read: nothing of it was put
   front-before : (start now next : Standing S) (reader reader' : Reading) (script left left' given0 given : Option (List ℕ)) (e : Event) → Reached play start now fresh reader script left given0 given → Passed between (e ∷ []) between reader reader' left left' → KnowsEnd reader'.ended left'
@@ -246,11 +230,22 @@ module _ {S : Type 0} (play : Play S) where
   front-before start now next reader reader' script left left' given0 given e r p knows body near =
       let all = passed-passed r.done (e ∷ []) between between between fresh reader reader' script left left' r.passed p in
       let f = fronts (r.done ++ e ∷ []) between reader' script left' knows all in
-      record { done = r.done; more = e ∷ f.0; front = front-next r.done e f.0 script left' f.1; fine = fine-front r.done between reader script left r.passed; bodies = r.bodies; put = r.put; state = by f.0 (fine-front (r.done ++ e ∷ []) between reader' script left' all) near }
+      let fine = fine-front (r.done ++ e ∷ []) between reader' script left' knows all in
+      record {
+        done = r.done;
+        more = e ∷ f.0;
+        taken = all.gone ++ reader'.pending;
+        taken_is = taken-is (r.done ++ e ∷ []) between reader' script left' all;
+        front = front-next r.done e f.0 (all.gone ++ reader'.pending) left' f.1;
+        fine = fine-less r.done (e ∷ []) (all.gone ++ reader'.pending) script fine;
+        bodies = r.bodies;
+        put = r.put;
+        state = by f.0 (all.gone ++ reader'.pending) fine near;
+      }
     where
-      by : (more : List Event) → IsFine (r.done ++ e ∷ []) script → IsRefused play now next e act_error.NoMemory ⊎ IsPast play now next e → IsNear play start next r.done (e ∷ more) script
-      by more fine (inl refused) = inr (inl (record { next = e; later = more; first = refl; body = body; fine = fine; is = inl (is-unmade start now next r.done e act_error.NoMemory r.state refused) }))
-      by more fine (inr past) = inr (inl (record { next = e; later = more; first = refl; body = body; fine = fine; is = inr (is-stepped start now next r.done e r.state past) }))
+      by : (more : List Event) (taken : List ℕ) → IsFine (r.done ++ e ∷ []) taken script → IsRefused play now next e act_error.NoMemory ⊎ IsPast play now next e → IsNear play start next r.done (e ∷ more) taken script
+      by more taken fine (inl refused) = inr (inl (record { next = e; later = more; first = refl; body = body; fine = fine; is = inl (is-unmade start now next r.done e act_error.NoMemory r.state refused) }))
+      by more taken fine (inr past) = inr (inl (record { next = e; later = more; first = refl; body = body; fine = fine; is = inr (is-stepped start now next r.done e r.state past) }))
 
   -- no memory for the unit of an event: all of its reply was put
   front-behind : (start now next : Standing S) (reader reader' : Reading) (script left left' given0 given given' : Option (List ℕ)) (e : Event) → Reached play start now fresh reader script left given0 given → Passed between (e ∷ []) between reader reader' left left' → KnowsEnd reader'.ended left'
@@ -259,7 +254,17 @@ module _ {S : Type 0} (play : Play S) where
   front-behind start now next reader reader' script left left' given0 given given' e r p knows body past put_is =
       let all = one-more start now (record { state = (play.act now.state e).after; table = next.table }) reader reader' script left left' given0 given given' e r p body refl past.1 put_is in
       let f = fronts all.done between reader' script left' knows all.passed in
-      record { done = all.done; more = f.0; front = f.1; fine = fine-front all.done between reader' script left' all.passed; bodies = all.bodies; put = all.put; state = inr (inr (record { earlier = r.done; last = e; end = refl; is = is-stepped start now next r.done e r.state past })) }
+      record {
+        done = all.done;
+        more = f.0;
+        taken = all.passed.gone ++ reader'.pending;
+        taken_is = taken-is all.done between reader' script left' all.passed;
+        front = f.1;
+        fine = fine-front all.done between reader' script left' knows all.passed;
+        bodies = all.bodies;
+        put = all.put;
+        state = inr (inr (record { earlier = r.done; last = e; end = refl; is = is-stepped start now next r.done e r.state past }));
+      }
 
   -- the keeper of an event that was to write failed
   unkept-of : (start now next : Standing S) (reader reader' : Reading) (script left left' given0 given : Option (List ℕ)) (e : Event) → Reached play start now fresh reader script left given0 given → Passed between (e ∷ []) between reader reader' left left' → KnowsEnd reader'.ended left'
@@ -271,8 +276,10 @@ module _ {S : Type 0} (play : Play S) where
         done = r.done;
         next = e;
         more = f.0;
-        front = front-next r.done e f.0 script left' f.1;
-        fine = fine-front (r.done ++ e ∷ []) between reader' script left' all;
+        taken = all.gone ++ reader'.pending;
+        taken_is = taken-is (r.done ++ e ∷ []) between reader' script left' all;
+        front = front-next r.done e f.0 (all.gone ++ reader'.pending) left' f.1;
+        fine = fine-front (r.done ++ e ∷ []) between reader' script left' knows all;
         bodies = bodies-more r.done e r.bodies body;
         wrote = sym (ap (λ s. (play.act s e).wrote) r.state.state) ∙ wrote;
         put = r.put;
@@ -289,8 +296,10 @@ module _ {S : Type 0} (play : Play S) where
         done = r.done;
         next = e;
         more = f.0;
-        front = front-next r.done e f.0 script left' f.1;
-        fine = fine-front (r.done ++ e ∷ []) between reader' script left' all;
+        taken = all.gone ++ reader'.pending;
+        taken_is = taken-is (r.done ++ e ∷ []) between reader' script left' all;
+        front = front-next r.done e f.0 (all.gone ++ reader'.pending) left' f.1;
+        fine = fine-front (r.done ++ e ∷ []) between reader' script left' knows all;
         bodies = bodies-more r.done e r.bodies body;
         part = cut.part;
         cut = cut.more;
@@ -332,7 +341,7 @@ module _ {S : Type 0} (play : Play S) where
         taken = p.gone ++ reader'.pending;
         taken_is = taken-is (r.done ++ []) s.place reader' script left' p;
         short = p.short s.why.1 reader'.pending ∙ none-passed s.place reader'.answered reader'.pending s.why.0 s.why.2;
-        fine = subst (λ es. IsFine es script) (sym all) (fine-front r.done between reader script left r.passed);
+        fine = subst (λ es. IsFine es (p.gone ++ reader'.pending) script) (append-nil r.done ∙ sym all) (fine-front (r.done ++ []) s.place reader' script left' knows p);
         bodies = subst (All IsShort) (sym all) r.bodies;
         put = r.put ∙ ap (λ es. appended given0 (concat (replies play start.state es))) (sym all);
         state = subst (IsBehind play start now) (sym all) r.state;
@@ -340,55 +349,61 @@ module _ {S : Type 0} (play : Play S) where
   ends-by start now NoMemory reader reader' script left left' given0 given r s knows =
       let p = passed-passed r.done [] between between s.place fresh reader reader' script left left' r.passed s.passed in
       let f = fronts (r.done ++ []) s.place reader' script left' knows p in
-      record { done = r.done; more = f.0; front = subst (λ es. IsFront es f.0 script left') (append-nil r.done) f.1; fine = fine-front r.done between reader script left r.passed; bodies = r.bodies; put = r.put; state = inl r.state }
+      record {
+        done = r.done;
+        more = f.0;
+        taken = p.gone ++ reader'.pending;
+        taken_is = taken-is (r.done ++ []) s.place reader' script left' p;
+        front = subst (λ es. IsFront es f.0 (p.gone ++ reader'.pending) left') (append-nil r.done) f.1;
+        fine = fine-less r.done [] (p.gone ++ reader'.pending) script (fine-front (r.done ++ []) s.place reader' script left' knows p);
+        bodies = r.bodies;
+        put = r.put;
+        state = inl r.state;
+      }
   ends-by start now Write reader reader' script left left' given0 given r s knows = absurd s.why
   ends-by start now Store reader reader' script left left' given0 given r s knows = absurd s.why
   ends-by start now TooLong reader reader' script left left' given0 given r s knows =
       let p = passed-passed r.done [] between between s.place fresh reader reader' script left left' r.passed s.passed in
+      let both = of-script (IsCutBehind r.done) (p.gone ++ reader'.pending) reader'.ended script left' (taken-is (r.done ++ []) s.place reader' script left' p) knows (cut p) in
       record {
         done = r.done;
-        cut = told script (told-ahead (r.done ++ []) script (ahead_of s.place reader' left') PassesHere p.ahead s.why.0);
+        cut = both.1;
         taken = p.gone ++ reader'.pending;
         taken_is = taken-is (r.done ++ []) s.place reader' script left' p;
+        here = both.0;
         shown = by_end p reader'.ended refl;
         bodies = r.bodies;
         put = r.put;
         state = r.state;
       }
     where
-      cut : (bytes : List ℕ) (a : Ahead) → ahead_in between 0 (pieces_of bytes) ≡ behind (r.done ++ []) a → PassesHere a → IsCutBehind r.done bytes
-      cut bytes a is passes = (ap (λ (a : Ahead). a.long) is ∙ passes.1, ap (λ (a : Ahead). a.fine) is ∙ ap (λ l. (r.done ++ []) ++ l) passes.0 ∙ append-nil (r.done ++ []) ∙ append-nil r.done)
-
-      told : (script : Option (List ℕ)) → IfSome script (λ all. (a : Ahead) × (ahead_in between 0 (pieces_of all) ≡ behind (r.done ++ []) a) × PassesHere a) → IfSome script (IsCutBehind r.done)
-      told None h = tt
-      told (Some all) h = cut all h.0 h.1 h.2
+      cut : (p : Passed between (r.done ++ []) s.place fresh reader' script left') (more : List ℕ) → (reader'.ended ≡ true → more ≡ []) → IsCutBehind r.done ((p.gone ++ reader'.pending) ++ more)
+      cut p more may =
+          let is = leads-on (r.done ++ []) s.place reader' script left' p more may in
+          let passes = s.why more (λ ended. ap (λ l. reader'.pending ++ l) (may ended) ∙ append-nil reader'.pending) in
+          (ap (λ (a : Ahead). a.long) is ∙ passes.1, ap (λ (a : Ahead). a.fine) is ∙ ap (λ l. (r.done ++ []) ++ l) passes.0 ∙ append-nil (r.done ++ []) ∙ append-nil r.done)
 
       by_end : (p : Passed between (r.done ++ []) s.place fresh reader' script left') (b : Bool) → reader'.ended ≡ b → IfSome left' (λ rest. rest ≡ []) ⊎ ((more : List ℕ) → IsCutBehind r.done ((p.gone ++ reader'.pending) ++ more))
       by_end p true is = inl (knows is)
-      by_end p false is = inr (λ more. cut ((p.gone ++ reader'.pending) ++ more) (ahead_in s.place reader'.answered (pieces_of (reader'.pending ++ more)))
-          (ap (λ l. ahead_in between 0 (pieces_of l)) (append_assoc p.gone reader'.pending more) ∙ p.leads is (reader'.pending ++ more)) (s.why.1 is more))
+      by_end p false is = inr (λ more. cut p more (λ ended. absurd (never (sym ended ∙ is))))
+        where
+          never : ◌≡◌ {A = Bool} true false → ⊥
+          never h = cc
 
   -- all is done
   pub all-done : (start now : Standing S) (reader reader' : Reading) (script left left' given0 given : Option (List ℕ)) → Reached play start now fresh reader script left given0 given → IsAtEnd between between reader reader' left left' → KnowsEnd reader'.ended left'
       → PutWhole play start now script left' given0 given
   all-done start now reader reader' script left left' given0 given r e knows =
       let p = passed-passed r.done [] between between between fresh reader reader' script left left' r.passed e.passed in
+      let ahead = leads-here (r.done ++ []) between reader' script left' p in
+      let nothing = ap (λ l. ahead_in between reader'.answered (pieces_of l)) e.nothing in
+      let all : events_of (p.gone ++ reader'.pending) ≡ r.done = ap (λ (a : Ahead). a.events) (ahead ∙ ap (behind (r.done ++ [])) nothing) ∙ append-nil (r.done ++ []) ∙ append-nil r.done in
       record {
-        done = r.done;
-        whole = whole script (told-ahead (r.done ++ []) script (ahead_of between reader' left') (λ a. (a.events ≡ []) × (a.long ≡ false)) p.ahead (nothing left' (knows e.ended)));
+        taken = p.gone ++ reader'.pending;
+        taken_is = taken-is (r.done ++ []) between reader' script left' p;
         drained = knows e.ended;
-        bodies = r.bodies;
-        put = r.put;
-        state = r.state;
+        short = ap (λ (a : Ahead). a.long) (ahead ∙ ap (behind (r.done ++ [])) nothing);
+        bodies = subst (All IsShort) (sym all) r.bodies;
+        put = r.put ∙ ap (λ es. appended given0 (concat (replies play start.state es))) (sym all);
+        state = subst (IsBehind play start now) (sym all) r.state;
       }
-    where
-      nothing : (left' : Option (List ℕ)) → IfSome left' (λ rest. rest ≡ []) → IfSome (ahead_of between reader' left') (λ a. (a.events ≡ []) × (a.long ≡ false))
-      nothing None h = tt
-      nothing (Some rest) h =
-          let empty : reader'.pending ++ rest ≡ [] = ap (λ l. l ++ rest) e.nothing ∙ h in
-          (ap (λ l. (ahead_in between reader'.answered (pieces_of l)).events) empty, ap (λ l. (ahead_in between reader'.answered (pieces_of l)).long) empty)
-
-      whole : (script : Option (List ℕ)) → IfSome script (λ all. (a : Ahead) × (ahead_in between 0 (pieces_of all) ≡ behind (r.done ++ []) a) × ((a.events ≡ []) × (a.long ≡ false)))
-          → IfSome script (λ all. (is_too_long all ≡ false) × (events_of all ≡ r.done))
-      whole None h = tt
-      whole (Some all) h = (ap (λ (a : Ahead). a.long) h.1 ∙ h.2.1, ap (λ (a : Ahead). a.events) h.1 ∙ ap (λ l. (r.done ++ []) ++ l) h.2.0 ∙ append-nil (r.done ++ []) ∙ append-nil r.done)

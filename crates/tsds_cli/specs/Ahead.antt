@@ -1,6 +1,5 @@
 -- What a script that is being read has ahead, and what calls took of it.
-use Rattle.std.specs.Prelude.{◌≡◌, ◌≤◌, ℕ, List, [], ◌∷◌, ◌++◌, length, Bool, true, false, map, Option, IfSome}
-use Rattle.std.specs.Option.{option_map}
+use Rattle.std.specs.Prelude.{◌≡◌, ◌≤◌, ℕ, List, [], ◌∷◌, ◌++◌, length, Bool, true, false, map, Option}
 use Rattle.edge_face.specs.Contents.{preceded}
 use Rattle.edge_face.specs.Limits.{line_limit}
 use Rattle.edge_face.specs.Lines.{pieces_of, line_of, HasNoNewline}
@@ -24,10 +23,6 @@ pub record Ahead : Type 0 where
 abbrev pub ahead_in : Place → ℕ → List (List ℕ) → Ahead
 ahead_in place before pieces = record { events = events_from place (map line_of pieces); fine = fine_from place before pieces; long = long_from place before pieces }
 
--- what lies ahead of a reader at a place of the script
-abbrev pub ahead_of : Place → Reading → Option (List ℕ) → Option Ahead
-ahead_of place reader left = option_map (λ bytes. ahead_in place reader.answered (pieces_of bytes)) (left_of reader left)
-
 -- the same behind some events more
 abbrev pub behind : List Event → Ahead → Ahead
 behind events ahead = record { events = events ++ ahead.events; fine = events ++ ahead.fine; long = ahead.long }
@@ -40,18 +35,23 @@ Closes place events to gone = (more : List ℕ) → closed_from place (whole_lin
 abbrev pub Holds : Place → ℕ → Place → ℕ → List ℕ → Type 0
 Holds place before to now gone = (more : List ℕ) → passed_from place before (pieces_of (gone ++ more)) ≡ passed_from to now (pieces_of more)
 
--- what lies ahead from one place is these events and what lies ahead from the other, whatever follows the bytes between them
-abbrev pub Leads : Place → List Event → ℕ → Place → ℕ → List ℕ → Type 0
-Leads place events before to now gone = (more : List ℕ) → ahead_in place before (pieces_of (gone ++ more)) ≡ behind events (ahead_in to now (pieces_of more))
+-- with these bytes behind them, what lies ahead from one place is these events and what lies ahead from the other
+abbrev pub Leads : Place → List Event → ℕ → Place → ℕ → List ℕ → List ℕ → Type 0
+Leads place events before to now gone more = ahead_in place before (pieces_of (gone ++ more)) ≡ behind events (ahead_in to now (pieces_of more))
 
--- a reader went over bytes that lead from one place to another, and these events are closed in them
+-- what a reader and its source may have left: any bytes, and once the source has ended those that wait, and no more
+abbrev pub MayBeLeft : Reading → List ℕ → Type 0
+MayBeLeft reader bytes = reader.ended ≡ true → bytes ≡ reader.pending
+
+-- a reader went over bytes that lead from one place to another, and these events are closed in them. From a source that has ended it
+-- takes nothing
 pub record Passed (place : Place) (events : List Event) (to : Place) (before after : Reading) (old new : Option (List ℕ)) : Type 0 where
   pub gone : List ℕ
   pub moved : left_of before old ≡ preceded gone (left_of after new)
   pub closed : after.ended ≡ false → Closes place events to gone
   pub short : after.ended ≡ false → Holds place before.answered to after.answered gone
-  pub ahead : ahead_of place before old ≡ option_map (behind events) (ahead_of to after new)
-  pub leads : after.ended ≡ false → Leads place events before.answered to after.answered gone
+  pub leads : (more : List ℕ) → MayBeLeft after more → Leads place events before.answered to after.answered gone more
+  pub waited : before.ended ≡ true → before.pending ≡ gone ++ after.pending
   pub still : after.ended ≡ false → before.ended ≡ false
   pub counted : before.answered ≤ after.answered
 
@@ -65,20 +65,19 @@ pub record IsAtEnd (from place : Place) (before after : Reading) (old new : Opti
 abbrev pub PassesHere : Ahead → Type 0
 PassesHere ahead = (ahead.fine ≡ []) × (ahead.long ≡ true)
 
--- why no further event comes, where the reader stands at this place: where the source hasn't ended, whatever it still has
-abbrev pub WhyStopped : RunError → Place → Reading → Option (List ℕ) → Type 0
-WhyStopped Read place reader left = HasNoNewline reader.pending × (reader.ended ≡ false) × (length reader.pending ≤ line_limit)
-WhyStopped TooLong place reader left = IfSome (ahead_of place reader left) PassesHere
-    × (reader.ended ≡ false → (more : List ℕ) → PassesHere (ahead_in place reader.answered (pieces_of (reader.pending ++ more))))
-WhyStopped NoMemory place reader left = Unit {0}
-WhyStopped Write place reader left = ⊥
-WhyStopped Store place reader left = ⊥
+-- why no further event comes, where the reader stands at this place, whatever may be left
+abbrev pub WhyStopped : RunError → Place → Reading → Type 0
+WhyStopped Read place reader = HasNoNewline reader.pending × (reader.ended ≡ false) × (length reader.pending ≤ line_limit)
+WhyStopped TooLong place reader = (more : List ℕ) → MayBeLeft reader (reader.pending ++ more) → PassesHere (ahead_in place reader.answered (pieces_of (reader.pending ++ more)))
+WhyStopped NoMemory place reader = Unit {0}
+WhyStopped Write place reader = ⊥
+WhyStopped Store place reader = ⊥
 
 -- a reader went on without closing an event, and stopped
 pub record Stopped (from : Place) (error : RunError) (before after : Reading) (old new : Option (List ℕ)) : Type 0 where
   pub place : Place
   pub passed : Passed from [] place before after old new
-  pub why : WhyStopped error place after new
+  pub why : WhyStopped error place after
 
 -- what a line between events opens, by its kind and its text: the events that it closes, and where it leads
 abbrev pub opened : Opening → List ℕ → List Event

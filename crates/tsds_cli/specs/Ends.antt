@@ -43,15 +43,17 @@ pub record Reached {S : Type 0} (play : Play S) (start now : Standing S) (first 
   pub put : PutAll play start.state given0 given done
   pub passed : Passed between done between first reader script left
 
--- these events are a front of those that are closed in the bytes taken; or of the script's, where the source is at its end
-pub record IsFront (events more : List Event) (script left : Option (List ℕ)) : Type 0 where
-  pub taken : List ℕ
-  pub taken_is : script ≡ preceded taken left
-  pub front : (closed_of taken ≡ events ++ more) ⊎ (IfSome left (λ rest. rest ≡ []) × IfSome script (λ all. events_of all ≡ events ++ more))
+-- these events are a front of those that are closed in the bytes taken; or of theirs as a script, where the source is at its end
+abbrev pub IsFront : List Event → List Event → List ℕ → Option (List ℕ) → Type 0
+IsFront events more taken left = (closed_of taken ≡ events ++ more) ⊎ (IfSome left (λ rest. rest ≡ []) × (events_of taken ≡ events ++ more))
 
--- these events are a front of those before the first length that a told script passes
-abbrev pub IsFine : List Event → Option (List ℕ) → Type 0
-IsFine events script = IfSome script (λ all. (later : List Event) × (fine_of all ≡ events ++ later))
+-- these events are a front of those before the first length that bytes pass
+abbrev pub AreFine : List Event → List ℕ → Type 0
+AreFine events bytes = (later : List Event) × (fine_of bytes ≡ events ++ later)
+
+-- the same of the bytes taken, and of the whole script where it is told
+abbrev pub IsFine : List Event → List ℕ → Option (List ℕ) → Type 0
+IsFine events taken script = AreFine events taken × IfSome script (AreFine events)
 
 -- state and table are those right behind the step of an event that follows these: the unit wasn't made
 pub record IsStepped {S : Type 0} (play : Play S) (start now : Standing S) (done : List Event) (next : Event) : Type 0 where
@@ -64,12 +66,12 @@ pub record IsUnmade {S : Type 0} (play : Play S) (start now : Standing S) (done 
   pub table : IsWrittenBy play start now.table done
 
 -- the next of the events that come was stepped, or broke off in its step; and the last of those done was stepped
-pub record NextIsBroken {S : Type 0} (play : Play S) (start now : Standing S) (done more : List Event) (script : Option (List ℕ)) : Type 0 where
+pub record NextIsBroken {S : Type 0} (play : Play S) (start now : Standing S) (done more : List Event) (taken : List ℕ) (script : Option (List ℕ)) : Type 0 where
   pub next : Event
   pub later : List Event
   pub first : more ≡ next ∷ later
   pub body : IsShort next
-  pub fine : IsFine (done ++ next ∷ []) script
+  pub fine : IsFine (done ++ next ∷ []) taken script
   pub is : IsUnmade play start now done next act_error.NoMemory ⊎ IsStepped play start now done next
 
 pub record LastIsStepped {S : Type 0} (play : Play S) (start now : Standing S) (done : List Event) : Type 0 where
@@ -79,8 +81,8 @@ pub record LastIsStepped {S : Type 0} (play : Play S) (start now : Standing S) (
   pub is : IsStepped play start now earlier last
 
 -- state and table are those behind the events done, or where the next broke off, or one unit back
-abbrev pub IsNear : {S : Type 0} → Play S → Standing S → Standing S → List Event → List Event → Option (List ℕ) → Type 0
-IsNear play start now done more script = IsBehind play start now done ⊎ (NextIsBroken play start now done more script ⊎ LastIsStepped play start now done)
+abbrev pub IsNear : {S : Type 0} → Play S → Standing S → Standing S → List Event → List Event → List ℕ → Option (List ℕ) → Type 0
+IsNear play start now done more taken script = IsBehind play start now done ⊎ (NextIsBroken play start now done more taken script ⊎ LastIsStepped play start now done)
 
 -- all replies to events that are closed in the bytes taken were put, and no length is passed in these. Here and below the events done, and
 -- the one that broke off, have bodies within their length
@@ -88,7 +90,7 @@ pub record PutClosed {S : Type 0} (play : Play S) (start now : Standing S) (scri
   pub taken : List ℕ
   pub taken_is : script ≡ preceded taken left
   pub short : has_passed taken ≡ false
-  pub fine : IsFine (closed_of taken) script
+  pub fine : IsFine (closed_of taken) taken script
   pub bodies : All IsShort (closed_of taken)
   pub put : PutAll play start.state given0 given (closed_of taken)
   pub state : IsBehind play start now (closed_of taken)
@@ -97,19 +99,23 @@ pub record PutClosed {S : Type 0} (play : Play S) (start now : Standing S) (scri
 pub record PutFront {S : Type 0} (play : Play S) (start now : Standing S) (script left given0 given : Option (List ℕ)) : Type 0 where
   pub done : List Event
   pub more : List Event
-  pub front : IsFront done more script left
-  pub fine : IsFine done script
+  pub taken : List ℕ
+  pub taken_is : script ≡ preceded taken left
+  pub front : IsFront done more taken left
+  pub fine : IsFine done taken script
   pub bodies : All IsShort done
   pub put : PutAll play start.state given0 given done
-  pub state : IsNear play start now done more script
+  pub state : IsNear play start now done more taken script
 
 -- the same, and the next event was to write, and its keeper failed
 pub record PutUnkept {S : Type 0} (play : Play S) (start now : Standing S) (script left given0 given : Option (List ℕ)) : Type 0 where
   pub done : List Event
   pub next : Event
   pub more : List Event
-  pub front : IsFront done (next ∷ more) script left
-  pub fine : IsFine (done ++ next ∷ []) script
+  pub taken : List ℕ
+  pub taken_is : script ≡ preceded taken left
+  pub front : IsFront done (next ∷ more) taken left
+  pub fine : IsFine (done ++ next ∷ []) taken script
   pub bodies : All IsShort (done ++ next ∷ [])
   pub wrote : (play.act (after_events play start.state done) next).wrote ≡ true
   pub put : PutAll play start.state given0 given done
@@ -120,8 +126,10 @@ pub record PutPart {S : Type 0} (play : Play S) (start now : Standing S) (script
   pub done : List Event
   pub next : Event
   pub more : List Event
-  pub front : IsFront done (next ∷ more) script left
-  pub fine : IsFine (done ++ next ∷ []) script
+  pub taken : List ℕ
+  pub taken_is : script ≡ preceded taken left
+  pub front : IsFront done (next ∷ more) taken left
+  pub fine : IsFine (done ++ next ∷ []) taken script
   pub bodies : All IsShort (done ++ next ∷ [])
   pub part : List ℕ
   pub cut : List ℕ
@@ -134,26 +142,28 @@ pub record PutPart {S : Type 0} (play : Play S) (start now : Standing S) (script
 abbrev pub IsCutBehind : List Event → List ℕ → Type 0
 IsCutBehind events bytes = (is_too_long bytes ≡ true) × (fine_of bytes ≡ events)
 
--- the replies to the events before the length that is passed were put. Where the source isn't at its end, the bytes taken tell so,
--- whatever follows them
+-- the replies to the events before the length that is passed were put. The bytes taken pass it, and a told script does; and where the
+-- source isn't at its end, they do whatever follows them
 pub record PutFine {S : Type 0} (play : Play S) (start now : Standing S) (script left given0 given : Option (List ℕ)) : Type 0 where
   pub done : List Event
   pub cut : IfSome script (IsCutBehind done)
   pub taken : List ℕ
   pub taken_is : script ≡ preceded taken left
+  pub here : IsCutBehind done taken
   pub shown : IfSome left (λ rest. rest ≡ []) ⊎ ((more : List ℕ) → IsCutBehind done (taken ++ more))
   pub bodies : All IsShort done
   pub put : PutAll play start.state given0 given done
   pub state : IsBehind play start now done
 
--- a run is done: the source is at its end, no length is passed, and the replies to the script's events were put
+-- a run is done: the source is at its end, the bytes taken pass no length, and the replies to their events as a script were put
 pub record PutWhole {S : Type 0} (play : Play S) (start now : Standing S) (script left given0 given : Option (List ℕ)) : Type 0 where
-  pub done : List Event
-  pub whole : IfSome script (λ all. (is_too_long all ≡ false) × (events_of all ≡ done))
+  pub taken : List ℕ
+  pub taken_is : script ≡ preceded taken left
   pub drained : IfSome left (λ rest. rest ≡ [])
-  pub bodies : All IsShort done
-  pub put : PutAll play start.state given0 given done
-  pub state : IsBehind play start now done
+  pub short : is_too_long taken ≡ false
+  pub bodies : All IsShort (events_of taken)
+  pub put : PutAll play start.state given0 given (events_of taken)
+  pub state : IsBehind play start now (events_of taken)
 
 -- how a run ends, by its error
 abbrev pub EndsBy : {S : Type 0} → Play S → Standing S → Standing S → RunError → Option (List ℕ) → Option (List ℕ) → Option (List ℕ) → Option (List ℕ) → Type 0

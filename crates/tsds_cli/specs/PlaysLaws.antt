@@ -10,7 +10,7 @@ use Rattle.tsds_cli.specs.declared.errors.ActError.{ActError}
 use Rattle.tsds_cli.specs.declared.errors.ActError.TheVariants as act_error
 use Rattle.tsds_cli.specs.declared.errors.RunError.{RunError}
 use Rattle.tsds_cli.specs.declared.errors.RunError.TheVariants.{NoMemory, Store, Read, Write, TooLong}
-use Rattle.tsds_cli.specs.Script.{Event, closed_of}
+use Rattle.tsds_cli.specs.Script.{Event, closed_of, events_of}
 use Rattle.tsds_cli.specs.Limits.{IsShort}
 use Rattle.tsds_cli.specs.Play.{Act, Play, Standing, stands, text_of, with_reply, replies, after_events, written_by, last_written, IsTable, IsWrittenBy, PutAll, IsBehind}
 use Rattle.tsds_cli.specs.Ends.{Ends, EndsBy, EndsWhole, IsNear, IsStepped, IsUnmade, PutWhole}
@@ -122,21 +122,21 @@ module _ {S T : Type 0} (p : Play S) (q : Play T) (Goes : S → T → Type 0) (w
         let l = w.leaves (after_events p start.state done) now.state (after_events q t done) next error (after-go start.state t done goes short) body h.left in
         (l.0, l.1, record { left = l.2; table = written-go done short h.table })
 
-    near-go : (done more : List Event) (script : Option (List ℕ)) → All IsShort done → IsNear p start now done more script
-        → GoesOn Goes now (λ n. IsNear q (stands t start.table) n done more script)
-    near-go done more script short (inl b) =
+    near-go : (done more : List Event) (taken : List ℕ) (script : Option (List ℕ)) → All IsShort done → IsNear p start now done more taken script
+        → GoesOn Goes now (λ n. IsNear q (stands t start.table) n done more taken script)
+    near-go done more taken script short (inl b) =
         let x = behind-go done short b in
         (x.0, x.1, inl x.2)
-    near-go done more script short (inr (inl n)) = next_is n.is
+    near-go done more taken script short (inr (inl n)) = next_is n.is
       where
-        next_is : IsUnmade p start now done n.next act_error.NoMemory ⊎ IsStepped p start now done n.next → GoesOn Goes now (λ n. IsNear q (stands t start.table) n done more script)
+        next_is : IsUnmade p start now done n.next act_error.NoMemory ⊎ IsStepped p start now done n.next → GoesOn Goes now (λ n. IsNear q (stands t start.table) n done more taken script)
         next_is (inl h) =
             let x = unmade-go done n.next act_error.NoMemory short n.body h in
             (x.0, x.1, inr (inl (record { next = n.next; later = n.later; first = n.first; body = n.body; fine = n.fine; is = inl x.2 })))
         next_is (inr h) =
             let x = stepped-go done n.next short n.body h in
             (x.0, x.1, inr (inl (record { next = n.next; later = n.later; first = n.first; body = n.body; fine = n.fine; is = inr x.2 })))
-    near-go done more script short (inr (inr l)) =
+    near-go done more taken script short (inr (inr l)) =
         let bodies = short-front l.earlier l.last (subst (All IsShort) l.end short) in
         let x = stepped-go l.earlier l.last bodies.0 bodies.1 l.is in
         (x.0, x.1, inr (inr (record { earlier = l.earlier; last = l.last; end = l.end; is = x.2 })))
@@ -145,15 +145,15 @@ module _ {S T : Type 0} (p : Play S) (q : Play T) (Goes : S → T → Type 0) (w
     pub whole-goes : (script left given0 given : Option (List ℕ)) → PutWhole p start now script left given0 given
         → GoesOn Goes now (λ n. PutWhole q (stands t start.table) n script left given0 given)
     whole-goes script left given0 given h =
-        let x = behind-go h.done h.bodies h.state in
-        (x.0, x.1, record { done = h.done; whole = h.whole; drained = h.drained; bodies = h.bodies; put = put-go given0 given h.done h.bodies h.put; state = x.2 })
+        let x = behind-go (events_of h.taken) h.bodies h.state in
+        (x.0, x.1, record { taken = h.taken; taken_is = h.taken_is; drained = h.drained; short = h.short; bodies = h.bodies; put = put-go given0 given (events_of h.taken) h.bodies h.put; state = x.2 })
 
     -- and one that ended by an error
     pub end-goes : (error : RunError) (script left given0 given : Option (List ℕ)) → EndsBy p start now error script left given0 given
         → GoesOn Goes now (λ n. EndsBy q (stands t start.table) n error script left given0 given)
     end-goes NoMemory script left given0 given h =
-        let x = near-go h.done h.more script h.bodies h.state in
-        (x.0, x.1, record { done = h.done; more = h.more; front = h.front; fine = h.fine; bodies = h.bodies; put = put-go given0 given h.done h.bodies h.put; state = x.2 })
+        let x = near-go h.done h.more h.taken script h.bodies h.state in
+        (x.0, x.1, record { done = h.done; more = h.more; taken = h.taken; taken_is = h.taken_is; front = h.front; fine = h.fine; bodies = h.bodies; put = put-go given0 given h.done h.bodies h.put; state = x.2 })
     end-goes Read script left given0 given h =
         let x = behind-go (closed_of h.taken) h.bodies h.state in
         (x.0, x.1, record { taken = h.taken; taken_is = h.taken_is; short = h.short; fine = h.fine; bodies = h.bodies; put = put-go given0 given (closed_of h.taken) h.bodies h.put; state = x.2 })
@@ -167,6 +167,8 @@ module _ {S T : Type 0} (p : Play S) (q : Play T) (Goes : S → T → Type 0) (w
             done = h.done;
             next = h.next;
             more = h.more;
+            taken = h.taken;
+            taken_is = h.taken_is;
             front = h.front;
             fine = h.fine;
             bodies = h.bodies;
@@ -185,6 +187,8 @@ module _ {S T : Type 0} (p : Play S) (q : Play T) (Goes : S → T → Type 0) (w
             done = h.done;
             next = h.next;
             more = h.more;
+            taken = h.taken;
+            taken_is = h.taken_is;
             front = h.front;
             fine = h.fine;
             bodies = h.bodies;
@@ -198,7 +202,7 @@ module _ {S T : Type 0} (p : Play S) (q : Play T) (Goes : S → T → Type 0) (w
         )
     end-goes TooLong script left given0 given h =
         let x = behind-go h.done h.bodies h.state in
-        (x.0, x.1, record { done = h.done; cut = h.cut; taken = h.taken; taken_is = h.taken_is; shown = h.shown; bodies = h.bodies; put = put-go given0 given h.done h.bodies h.put; state = x.2 })
+        (x.0, x.1, record { done = h.done; cut = h.cut; taken = h.taken; taken_is = h.taken_is; here = h.here; shown = h.shown; bodies = h.bodies; put = put-go given0 given h.done h.bodies h.put; state = x.2 })
 
   -- the same where only something is seen of the last state: a state that goes with one of which this was seen
   pub ends-go : (start : Standing S) (t : T) (Seen : Standing S → Type 0) (error : RunError) (script left given0 given : Option (List ℕ)) → Goes start.state t

@@ -10,14 +10,14 @@ use Rattle.tsds_cli.proofs.script.next_opening.Goals as goal
 pub returns-in_err-piece-clause-stopped : goal.returns-in_err-piece-clause-stopped
 returns-in_err-piece-clause-stopped g c =
     let answer = err_from_is_err_and c.from_residual.result c.from_residual.ensures.1 in
-    let passed = passed-passed [] [] between between between c.args.reader.now c.lines.reader c.find_line.new.self _ _ _ c.lines.invariant.passed (looked between c.lines.reader c.find_line.new.self _ _ c.find_line.ensures.kept c.find_line.ensures.counted c.find_line.ensures.still) in
+    let passed = passed-passed [] [] between between between c.args.reader.now c.lines.reader c.find_line.new.self _ _ _ c.lines.invariant.passed (looked between c.lines.reader c.find_line.new.self _ _ c.find_line.ensures.kept c.find_line.ensures.counted c.find_line.ensures.still c.find_line.ensures.stays) in
     let stopped = stopped-line between between c.in_err-piece.field-0.0 c.args.reader.now c.find_line.new.self _ _ _ _ passed c.find_line.ensures.within (c.in_err-piece.ensures.cause c.lines.invariant.fine) in
     let there = subst (λ e. Stopped between e c.args.reader.now c.find_line.new.self (g.S.Source.left c.args.source.now) (g.S.Source.left c.find_line.new.source)) (sym answer.2) stopped in
     subst (λ r. IfErr r (λ e. Stopped between e c.args.reader.now c.find_line.new.self (g.S.Source.left c.args.source.now) (g.S.Source.left c.find_line.new.source))) (sym answer.1) there
 
 pub returns-then-not-is_skipped-clause-found : goal.returns-then-not-is_skipped-clause-found
 returns-then-not-is_skipped-clause-found g c =
-    let passed = passed-passed [] [] between between between c.args.reader.now c.lines.reader c.find_line.new.self _ _ _ c.lines.invariant.passed (looked between c.lines.reader c.find_line.new.self _ _ c.find_line.ensures.kept c.find_line.ensures.counted c.find_line.ensures.still) in
+    let passed = passed-passed [] [] between between between c.args.reader.now c.lines.reader c.find_line.new.self _ _ _ c.lines.invariant.passed (looked between c.lines.reader c.find_line.new.self _ _ c.find_line.ensures.kept c.find_line.ensures.counted c.find_line.ensures.still c.find_line.ensures.stays) in
     let o = c.in_ok-opening.opening in
     let text : List ℕ = c.read_opening.new.into.items in
     passed-passed [] (opened o text) between between (opens o text) c.args.reader.now c.find_line.new.self c.pass.new.self _ _ _ passed
@@ -25,7 +25,7 @@ returns-then-not-is_skipped-clause-found g c =
 
 pub lines-preserved : goal.lines-preserved
 lines-preserved g c =
-    let passed = passed-passed [] [] between between between c.args.reader.now c.lines.reader c.find_line.new.self _ _ _ c.lines.invariant.passed (looked between c.lines.reader c.find_line.new.self _ _ c.find_line.ensures.kept c.find_line.ensures.counted c.find_line.ensures.still) in
+    let passed = passed-passed [] [] between between between c.args.reader.now c.lines.reader c.find_line.new.self _ _ _ c.lines.invariant.passed (looked between c.lines.reader c.find_line.new.self _ _ c.find_line.ensures.kept c.find_line.ensures.counted c.find_line.ensures.still c.find_line.ensures.stays) in
     record {
       passed = passed-passed [] [] between between between c.args.reader.now c.find_line.new.self c.pass-in-lines.new.self _ _ _ passed
           (skip-passed c.in_ok-piece.piece c.find_line.new.self c.pass-in-lines.new.self _ c.in_ok-piece.ensures.found (omega arith)

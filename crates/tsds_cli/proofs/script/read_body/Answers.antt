@@ -12,7 +12,7 @@ pub returns-in_err-piece-clause-stopped : goal.returns-in_err-piece-clause-stopp
 returns-in_err-piece-clause-stopped g c =
     let from : Place = within c.args.heard.now.line.items [] in
     let here : Place = within c.args.heard.now.line.items c.lines.heard.body.items in
-    let passed = passed-passed [] [] from here here c.args.reader.now c.lines.reader c.find_line.new.self _ _ _ c.lines.invariant.passed (looked here c.lines.reader c.find_line.new.self _ _ c.find_line.ensures.kept c.find_line.ensures.counted c.find_line.ensures.still) in
+    let passed = passed-passed [] [] from here here c.args.reader.now c.lines.reader c.find_line.new.self _ _ _ c.lines.invariant.passed (looked here c.lines.reader c.find_line.new.self _ _ c.find_line.ensures.kept c.find_line.ensures.counted c.find_line.ensures.still c.find_line.ensures.stays) in
     err-stops from c.from_residual.result (run_error_of c.in_err-piece.field-0.0) c.args.reader.now c.find_line.new.self _ _ c.from_residual.ensures.1
     (stopped-line from here c.in_err-piece.field-0.0 c.args.reader.now c.find_line.new.self _ _ _ _ passed c.find_line.ensures.within (c.in_err-piece.ensures.cause c.lines.invariant.fine))
 
@@ -20,14 +20,14 @@ pub returns-then-piece-eq0-clause-event : goal.returns-then-piece-eq0-clause-eve
 returns-then-piece-eq0-clause-event g c =
     let from : Place = within c.args.heard.now.line.items [] in
     let here : Place = within c.args.heard.now.line.items c.lines.heard.body.items in
-    let passed = passed-passed [] [] from here here c.args.reader.now c.lines.reader c.find_line.new.self _ _ _ c.lines.invariant.passed (looked here c.lines.reader c.find_line.new.self _ _ c.find_line.ensures.kept c.find_line.ensures.counted c.find_line.ensures.still) in
+    let passed = passed-passed [] [] from here here c.args.reader.now c.lines.reader c.find_line.new.self _ _ _ c.lines.invariant.passed (looked here c.lines.reader c.find_line.new.self _ _ c.find_line.ensures.kept c.find_line.ensures.counted c.find_line.ensures.still c.find_line.ensures.stays) in
     passed-passed [] (Request c.args.heard.now.line.items c.lines.heard.body.items ∷ []) from here between c.args.reader.now c.find_line.new.self c.find_line.new.self _ _ _ passed (end-passed here c.in_ok-piece.piece c.find_line.new.self _ c.in_ok-piece.ensures.found c.if-piece-eq0.true)
 
 pub returns-then-ends_body-clause-event : goal.returns-then-ends_body-clause-event
 returns-then-ends_body-clause-event g c =
     let from : Place = within c.args.heard.now.line.items [] in
     let here : Place = within c.args.heard.now.line.items c.lines.heard.body.items in
-    let passed = passed-passed [] [] from here here c.args.reader.now c.lines.reader c.find_line.new.self _ _ _ c.lines.invariant.passed (looked here c.lines.reader c.find_line.new.self _ _ c.find_line.ensures.kept c.find_line.ensures.counted c.find_line.ensures.still) in
+    let passed = passed-passed [] [] from here here c.args.reader.now c.lines.reader c.find_line.new.self _ _ _ c.lines.invariant.passed (looked here c.lines.reader c.find_line.new.self _ _ c.find_line.ensures.kept c.find_line.ensures.counted c.find_line.ensures.still c.find_line.ensures.stays) in
     passed-passed [] (Request c.args.heard.now.line.items c.lines.heard.body.items ∷ []) from here between c.args.reader.now c.find_line.new.self c.pass.new.self _ _ _ passed
     (close-passed c.in_ok-piece.piece c.args.heard.now.line.items c.lines.heard.body.items c.line-line.result.now c.find_line.new.self c.pass.new.self _ c.in_ok-piece.ensures.found (omega arith) c.line-line.ensures (sym c.ends_body.ensures ∙ c.if-ends_body.true) c.pass.ensures)
 
@@ -35,7 +35,7 @@ pub returns-in_err-add_line-clause-stopped : goal.returns-in_err-add_line-clause
 returns-in_err-add_line-clause-stopped g c =
     let from : Place = within c.args.heard.now.line.items [] in
     let here : Place = within c.args.heard.now.line.items c.lines.heard.body.items in
-    let passed = passed-passed [] [] from here here c.args.reader.now c.lines.reader c.find_line.new.self _ _ _ c.lines.invariant.passed (looked here c.lines.reader c.find_line.new.self _ _ c.find_line.ensures.kept c.find_line.ensures.counted c.find_line.ensures.still) in
+    let passed = passed-passed [] [] from here here c.args.reader.now c.lines.reader c.find_line.new.self _ _ _ c.lines.invariant.passed (looked here c.lines.reader c.find_line.new.self _ _ c.find_line.ensures.kept c.find_line.ensures.counted c.find_line.ensures.still c.find_line.ensures.stays) in
     err-stops from c.from_residual-in_err-add_line.result c.in_err-add_line.field-0.0 c.args.reader.now c.find_line.new.self _ _ c.from_residual-in_err-add_line.ensures.1
     (stopped-add from c.in_err-add_line.field-0.0 c.in_ok-piece.piece c.args.heard.now.line.items c.lines.heard.body.items c.line-line.result.now c.args.reader.now c.find_line.new.self _ _ passed c.in_ok-piece.ensures.found (omega arith)
     (sym c.ends_body.ensures ∙ c.if-ends_body.false) c.line-line.ensures (λ e. c.in_err-add_line.ensures.long (ap Err e)) (λ e. c.in_err-add_line.ensures.others.0 (ap Err e)) (λ e. c.in_err-add_line.ensures.others.1.0 (ap Err e)) (λ e. c.in_err-add_line.ensures.others.1.1 (ap Err e)))
@@ -45,7 +45,7 @@ lines-preserved g c =
     let from : Place = within c.args.heard.now.line.items [] in
     let here : Place = within c.args.heard.now.line.items c.lines.heard.body.items in
     let longer : List ℕ = c.lines.heard.body.items ++ (c.line-line.result.now ++ 10 ∷ []) in
-    let passed = passed-passed [] [] from here here c.args.reader.now c.lines.reader c.find_line.new.self _ _ _ c.lines.invariant.passed (looked here c.lines.reader c.find_line.new.self _ _ c.find_line.ensures.kept c.find_line.ensures.counted c.find_line.ensures.still) in
+    let passed = passed-passed [] [] from here here c.args.reader.now c.lines.reader c.find_line.new.self _ _ _ c.lines.invariant.passed (looked here c.lines.reader c.find_line.new.self _ _ c.find_line.ensures.kept c.find_line.ensures.counted c.find_line.ensures.still c.find_line.ensures.stays) in
     let short = subst (λ l. length l ≤ body_limit) c.in_ok-add_line.ensures.ok c.in_ok-add_line.ensures.short in
     let all = passed-passed [] [] from here (within c.args.heard.now.line.items longer) c.args.reader.now c.find_line.new.self c.pass-in-lines.new.self _ _ _ passed
     (body-passed c.in_ok-piece.piece c.args.heard.now.line.items c.lines.heard.body.items c.line-line.result.now c.find_line.new.self c.pass-in-lines.new.self _ c.in_ok-piece.ensures.found (omega arith) c.line-line.ensures (sym c.ends_body.ensures ∙ c.if-ends_body.false) short c.pass-in-lines.ensures) in
