@@ -1,5 +1,5 @@
 //! Which function makes the call of a case.
-use crate::{acceptors, clocks, keepers, lines, links, runs, writes};
+use crate::{acceptors, clocks, keepers, lines, links, records, runs, writes};
 use probe_case::Trial;
 use serde_json::Value;
 
@@ -7,6 +7,7 @@ fn of_streams(call: &str, case: &Value, trial: &mut Trial) -> bool {
     match call {
         "top" => runs::run(case, trial),
         "top_with_faults" => runs::run_with_faults(case, trial),
+        "run_recorded" => records::run_recorded(case, trial),
         "next_line" => lines::lines(case, trial),
         "put_all" => writes::put(case, trial),
         _ => return false,

@@ -1,24 +1,31 @@
--- Which refusal of a line or an event ends a run how, and the statuses that the program ends with.
+-- Which refusal of a line, an event or a keeper ends a run how, and the statuses that the program ends with.
 use Rattle.std.specs.Prelude.{ℕ}
+use Rattle.edge_face.specs.declared.keeper.KeepError.{KeepError}
+use Rattle.edge_face.specs.declared.keeper.KeepError.TheVariants as keep
 use Rattle.edge_face.specs.declared.reader.LineError.{LineError}
 use Rattle.edge_face.specs.declared.reader.LineError.TheVariants as line
 use Rattle.tsds_cli.specs.declared.errors.ActError.{ActError}
 use Rattle.tsds_cli.specs.declared.errors.ActError.TheVariants as act
 use Rattle.tsds_cli.specs.declared.errors.RunError.{RunError}
 use Rattle.tsds_cli.specs.declared.errors.RunError.TheVariants.{NoMemory, Store, Read, Write, TooLong}
+use Rattle.tsds_cli.specs.declared.status.TheConstants.{NO_MEMORY, READ_FAULT, KEEPER_FAULT, WRITE_FAULT, TOO_LONG}
 
 abbrev pub run_error_of : LineError → RunError
 run_error_of line.Read = Read
 run_error_of (line.TooLong bytes) = TooLong
 run_error_of line.NoMemory = NoMemory
 
+abbrev pub kept_error : KeepError → ActError
+kept_error keep.NoMemory = act.NoMemory
+kept_error keep.Failed = act.Store
+
 abbrev pub broken_by : ActError → RunError
 broken_by act.NoMemory = NoMemory
 broken_by act.Store = Store
 
 abbrev pub status_of : RunError → ℕ
-status_of NoMemory = 3
-status_of Read = 4
-status_of Store = 6
-status_of Write = 7
-status_of TooLong = 8
+status_of NoMemory = NO_MEMORY
+status_of Read = READ_FAULT
+status_of Store = KEEPER_FAULT
+status_of Write = WRITE_FAULT
+status_of TooLong = TOO_LONG

@@ -2,6 +2,7 @@ pub mod Ahead
 pub mod Documents
 pub mod Ends
 pub mod Errors
+pub mod Examples
 pub mod Limits
 pub mod Play
 pub mod PlaysLaws

@@ -1,7 +1,7 @@
 //! How a run ends before the end of its script.
 
 use crate::status::{KEEPER_FAULT, NO_MEMORY, READ_FAULT, TOO_LONG, WRITE_FAULT};
-use edge_face::{LineError, NoMemory};
+use edge_face::{KeepError, LineError, NoMemory};
 use std::alloc::AllocError;
 use thiserror::Error;
 
@@ -23,6 +23,20 @@ impl From<NoMemory> for ActError {
 
     fn from(_: NoMemory) -> ActError {
         ActError::NoMemory
+    }
+}
+
+impl From<KeepError> for ActError {
+    ghost use Rattle.std.specs.Prelude.{◌≡◌};
+    ghost use Rattle.tsds_cli.specs.Errors.{kept_error};
+
+    ghost from_gives = { λ e a. a ≡ kept_error e };
+
+    fn from(error: KeepError) -> ActError {
+        match error {
+            KeepError::NoMemory => ActError::NoMemory,
+            KeepError::Failed => ActError::Store,
+        }
     }
 }
 

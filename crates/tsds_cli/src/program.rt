@@ -12,7 +12,7 @@ ghost use Rattle.tsds_cli.specs.Words.{is_run};
 use crate::errors::RunError;
 use crate::machine::Machine;
 use crate::runs::run;
-use crate::status::{DONE, USAGE};
+use crate::status::{DONE, NO_MEMORY, READ_FAULT, TOO_LONG, USAGE, WRITE_FAULT};
 use edge_face::{Sink, Source, SteadyKeeper};
 use std::alloc::Global;
 use std::collections::BTreeMap;
@@ -55,32 +55,32 @@ fn are_run(words: &[String]) -> bool
 /// words are no command, 3 where there was no memory, 4 where the source failed, 7 where the sink failed, and 8 where the
 /// script passes one of its lengths.
 pub fn top<S: Source, K: Sink>(alloc: Global, words: &[String], source: &mut S, sink: &mut K) -> u8
-    ensures known { Contains (0 ∷ 2 ∷ 3 ∷ 4 ∷ 7 ∷ 8 ∷ []) result }
+    ensures known { Contains (DONE ∷ USAGE ∷ NO_MEMORY ∷ READ_FAULT ∷ WRITE_FAULT ∷ TOO_LONG ∷ []) result }
 
     // Once all is done, the source is at its end and what was written is exactly the replies of the plain machine.
-    ensures done { result ≡ 0 → IfSome (S.left source.old) (λ script. PutAll script_play empty_machine (K.given sink.old) (K.given sink.new) (events_of script)) }
-    ensures drained { result ≡ 0 → IfSome (S.left source.new) (λ rest. rest ≡ []) }
-    ensures whole { result ≡ 0 → EndsWhole script_play empty_standing Unseen (S.left source.old) (S.left source.new) (K.given sink.old) (K.given sink.new) }
+    ensures done { result ≡ DONE → IfSome (S.left source.old) (λ script. PutAll script_play empty_machine (K.given sink.old) (K.given sink.new) (events_of script)) }
+    ensures drained { result ≡ DONE → IfSome (S.left source.new) (λ rest. rest ≡ []) }
+    ensures whole { result ≡ DONE → EndsWhole script_play empty_standing Unseen (S.left source.old) (S.left source.new) (K.given sink.old) (K.given sink.new) }
 
     // Under any other status of a run, what was written is told by the events that were done.
-    ensures memory { result ≡ 3 → Ends script_play empty_standing Unseen RunError.NoMemory (S.left source.old) (S.left source.new) (K.given sink.old) (K.given sink.new) }
-    ensures read { result ≡ 4 → Rose (S.faults source.old) (S.faults source.new)
+    ensures memory { result ≡ NO_MEMORY → Ends script_play empty_standing Unseen RunError.NoMemory (S.left source.old) (S.left source.new) (K.given sink.old) (K.given sink.new) }
+    ensures read { result ≡ READ_FAULT → Rose (S.faults source.old) (S.faults source.new)
         × Ends script_play empty_standing Unseen RunError.Read (S.left source.old) (S.left source.new) (K.given sink.old) (K.given sink.new) }
-    ensures write { result ≡ 7 → Rose (K.faults sink.old) (K.faults sink.new)
+    ensures write { result ≡ WRITE_FAULT → Rose (K.faults sink.old) (K.faults sink.new)
         × Ends script_play empty_standing Unseen RunError.Write (S.left source.old) (S.left source.new) (K.given sink.old) (K.given sink.new) }
-    ensures long { result ≡ 8 → Ends script_play empty_standing Unseen RunError.TooLong (S.left source.old) (S.left source.new) (K.given sink.old) (K.given sink.new) }
-    ensures short { result ≡ 0 → IfSome (S.left source.old) (λ script. is_too_long script ≡ false) }
+    ensures long { result ≡ TOO_LONG → Ends script_play empty_standing Unseen RunError.TooLong (S.left source.old) (S.left source.new) (K.given sink.old) (K.given sink.new) }
+    ensures short { result ≡ DONE → IfSome (S.left source.old) (λ script. is_too_long script ≡ false) }
 
     // With the words of a run, a told source that holds its lengths and devices whose counts stay, the run is done unless memory is wanting.
     ensures complete { (script : List ℕ) → S.left source.old ≡ Some script → is_too_long script ≡ false → is_run (map string_bytes words.now) ≡ true
-        → (Rose (S.faults source.old) (S.faults source.new) → ⊥) → (Rose (K.faults sink.old) (K.faults sink.new) → ⊥) → (result ≡ 0) ⊎ (result ≡ 3) }
+        → (Rose (S.faults source.old) (S.faults source.new) → ⊥) → (Rose (K.faults sink.old) (K.faults sink.new) → ⊥) → (result ≡ DONE) ⊎ (result ≡ NO_MEMORY) }
 
     // The counts of faults never fall.
     ensures faults { S.faults source.old ≤ S.faults source.new }
     ensures sink_faults { K.faults sink.old ≤ K.faults sink.new }
 
-    ensures usage { (result ≡ 2) ↔ (is_run (map string_bytes words.now) ≡ false) }
-    ensures untouched { result ≡ 2 → (source.new ≡ source.old) × (sink.new ≡ sink.old) }
+    ensures usage { (result ≡ USAGE) ↔ (is_run (map string_bytes words.now) ≡ false) }
+    ensures untouched { result ≡ USAGE → (source.new ≡ source.old) × (sink.new ≡ sink.old) }
 {
     if !are_run(words) {
         return USAGE;
