@@ -63,6 +63,7 @@ printf 'tsds: write fault\n' > write_fault
 same "write fault on standard error" err write_fault
 "$program" run < one.tsds > /dev/full 2> err
 check "a full standard output" 7 $?
+same "write fault on standard error for it" err write_fault
 (
     # By then its reader is gone.
     sleep 1
@@ -93,11 +94,97 @@ check "a script in pieces" 0 $?
 cat one.replies one.replies > two.replies
 same "its replies" out two.replies
 
+# Signals that come while a call waits end nothing: the program is stopped and goes on, and other signals mean nothing to it.
+mkfifo slow
+"$program" run < slow > out 2> err &
+pid=$!
+{
+    printf 'GET /m/_co'
+    sleep 0.3
+    kill -STOP "$pid"
+    sleep 0.2
+    kill -CONT "$pid"
+    kill -WINCH "$pid"
+    kill -URG "$pid"
+    sleep 0.2
+    printf 'unt\n'
+} > slow
+wait "$pid"
+check "a script whose reader is stopped and goes on" 0 $?
+same "its reply" out one.replies
+
+# A call that was interrupted is made again: here each other call is, by functions that stand before those of the C library.
+cat > interrupt.c << 'END'
+#define _GNU_SOURCE
+#include <dlfcn.h>
+#include <errno.h>
+#include <fcntl.h>
+#include <unistd.h>
+
+static int is_interrupted(void) {
+    static int calls;
+    if (calls++ % 2 == 1) return 0;
+    close(open("interrupted", O_CREAT | O_WRONLY, 0600));
+    errno = EINTR;
+    return 1;
+}
+
+ssize_t read(int from, void *into, size_t most) {
+    ssize_t (*next)(int, void *, size_t) = (ssize_t (*)(int, void *, size_t))dlsym(RTLD_NEXT, "read");
+    return from == 0 && is_interrupted() ? -1 : next(from, into, most);
+}
+
+ssize_t write(int to, const void *piece, size_t most) {
+    ssize_t (*next)(int, const void *, size_t) = (ssize_t (*)(int, const void *, size_t))dlsym(RTLD_NEXT, "write");
+    return to == 1 && is_interrupted() ? -1 : next(to, piece, most < 5 ? most : 5);
+}
+END
+if command -v cc > /dev/null && cc -shared -fPIC -o interrupt.so interrupt.c -ldl 2> /dev/null; then
+    LD_PRELOAD=$there/interrupt.so "$program" run < one.tsds > out 2> err
+    status=$?
+    if [ -e interrupted ]; then
+        check "calls that are interrupted" 0 "$status"
+        same "the reply behind them, five bytes at a time" out one.replies
+        same "nothing on standard error" err nothing
+    else
+        echo "left out: calls that are interrupted, which needs a program that calls the C library"
+    fi
+else
+    echo "left out: calls that are interrupted, which needs cc"
+fi
+
+# A sink that takes a part of a reply and then fails: a file that may have 1,024 bytes, and a pipe whose reader leaves.
+yes $'GET /none\n' | head -n 4000 > many.tsds
+"$program" run < many.tsds > many.replies 2> err
+check "many requests" 0 $?
+(
+    trap '' XFSZ
+    ulimit -f 1
+    exec "$program" run
+) < many.tsds > part 2> err
+check "a file that may have 1,024 bytes" 7 $?
+head -c 1024 many.replies > first
+same "the first part of the replies" part first
+same "write fault on standard error for it" err write_fault
+[ -n "$(tail -c 1 part)" ]
+check "a reply of which a first part was written" 0 $?
+{
+    "$program" run < many.tsds 2> err
+    echo $? > status
+} | head -c 100 > part
+check "a pipe whose reader leaves" 7 "$(cat status)"
+head -c 100 many.replies > first
+same "the first bytes of the replies" part first
+same "write fault on standard error for that" err write_fault
+
+printf 'tsds: input too long\n' > too_long
 head -c 1048577 /dev/zero | tr '\0' x | "$program" run > out 2> err
 check "a line that is too long" 8 $?
+same "input too long on standard error" err too_long
 { cat one.tsds; echo; head -c 1048577 /dev/zero | tr '\0' x; } | "$program" run > out 2> err
 check "a line that is too long behind a request" 8 $?
 same "the reply before it" out one.replies
+same "input too long on standard error for it" err too_long
 
 # No memory: a body that grows past the address space ends the run, and what was answered before it stays.
 printf 'tsds: out of memory\n' > no_memory
