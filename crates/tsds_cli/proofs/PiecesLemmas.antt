@@ -1,18 +1,9 @@
 -- All pieces are the first one, and those of what follows it.
-use Rattle.std.proofs.Common.{◌≡◌, ◌∙◌, ℕ, ◌+◌, ◌-◌, ◌<◌, ◌≤◌, ◌==◌, ◌&&◌, nat_lt, Bool, true, false, cond, List, [], ◌∷◌, ◌++◌, length, take, refl, ap, arith, length-append, length-take, append-nil}
+use Rattle.std.proofs.Common.{◌≡◌, ◌∙◌, ℕ, ◌-◌, ◌<◌, ◌≤◌, ◌==◌, ◌&&◌, nat_lt, Bool, true, false, cond, List, [], ◌∷◌, ◌++◌, length, take, refl, ap, arith, length-append, length-take, append-nil}
 use Rattle.std.specs.List.{slice_index}
 use Rattle.std.specs.Io.BufRead.{strip_last, ends_with_byte}
 use Rattle.std.proofs.lemmas.Bool.{ne_eqb}
 use Rattle.edge_face.specs.Lines.{piece_of, after_piece, pieces_of, with_first, HasNoNewline}
-
--- a piece and what follows it are all
-pub piece-after : (bytes : List ℕ) → piece_of bytes ++ after_piece bytes ≡ bytes
-piece-after [] = refl
-piece-after (b ∷ bytes) = go (b == 10) (piece-after bytes)
-  where
-    go : (hit : Bool) → piece_of bytes ++ after_piece bytes ≡ bytes → cond hit (b ∷ []) (b ∷ piece_of bytes) ++ cond hit bytes (after_piece bytes) ≡ b ∷ bytes
-    go true rest = refl
-    go false rest = ap (λ l. b ∷ l) rest
 
 -- the pieces of bytes that are not empty
 pub pieces-first : (b : ℕ) (bytes : List ℕ) → pieces_of (b ∷ bytes) ≡ piece_of (b ∷ bytes) ∷ pieces_of (after_piece (b ∷ bytes))
@@ -32,9 +23,6 @@ pieces-first b (c ∷ bytes) = go (b == 10) (ap (with_first b) (pieces-first c b
 pub pieces-split : (bytes piece rest : List ℕ) → piece_of bytes ≡ piece → after_piece bytes ≡ rest → 0 < length piece → pieces_of bytes ≡ piece ∷ pieces_of rest
 pieces-split [] piece rest first after some = absurd (omega (arith, ap length first))
 pieces-split (b ∷ bytes) piece rest first after some = pieces-first b bytes ∙ ap (λ p. p ∷ pieces_of (after_piece (b ∷ bytes))) first ∙ ap (λ r. piece ∷ pieces_of r) after
-
-pub length-split : (bytes piece rest : List ℕ) → piece_of bytes ≡ piece → after_piece bytes ≡ rest → length bytes ≡ length piece + length rest
-length-split bytes piece rest first after = omega (arith, ap length (piece-after bytes), length-append (piece_of bytes) (after_piece bytes), ap length first, ap length after)
 
 and-false : (b : Bool) → (b && false) ≡ false
 and-false true = refl
