@@ -1,7 +1,5 @@
 -- Sets of paths, and tests that only ask which paths are among some.
-use Rattle.std.proofs.Common.{◌≡◌, ◌<◌, ◌+◌, ℕ, suc, List, [], ◌∷◌, ◌++◌, Bool, true, false, ◌||◌, ◌&&◌, not, bytes_eq, Ordering, Less, Equal, Greater, map, drop, length, get_or, add-one, drop-cons, Option, Some, None, if◌then◌else◌, nat_le, refl, sym, ap, ap₂, ◌∙◌}
-use Rattle.std.specs.Prelude.{Vec}
-use Rattle.std.specs.declared.alloc.Global.{Global}
+use Rattle.std.proofs.Common.{◌≡◌, ◌<◌, ◌+◌, ℕ, suc, List, [], ◌∷◌, ◌++◌, Bool, true, false, ◌||◌, ◌&&◌, not, bytes_eq, Ordering, Less, Equal, Greater, drop, length, get_or, add-one, drop-cons, Option, Some, None, if◌then◌else◌, nat_le, refl, sym, ap, ap₂, ◌∙◌}
 use Rattle.std.specs.BTreeMap.{is_at}
 use Rattle.std.specs.BTreeSet.{insert_key}
 use Rattle.std.specs.Cmp.Lexicographic.{slice_cmp}
@@ -21,15 +19,9 @@ use Rattle.ts_mapping.specs.Properties.{Property}
 
 -- ---- the keys of a set
 
-abbrev order : Vec ℕ Global → Vec ℕ Global → Ordering
-order a b = slice_cmp nat_cmp a.items b.items
-
-abbrev pub paths_in : List (Vec ℕ Global) → List (List ℕ)
-paths_in = map (λ k. k.items)
-
-pub has_key : (q : List ℕ) (ks : List (Vec ℕ Global)) → list_any (is_at (λ k. slice_cmp nat_cmp q k.items)) ks ≡ is_among q (paths_in ks)
+pub has_key : (q : List ℕ) (ks : List (List ℕ)) → list_any (is_at (slice_cmp nat_cmp q)) ks ≡ is_among q ks
 has_key q [] = refl
-has_key q (k ∷ ks) = ap₂ (λ a b. a || b) (is_eq-slice_cmp q k.items) (has_key q ks)
+has_key q (k ∷ ks) = ap₂ (λ a b. a || b) (is_eq-slice_cmp q k) (has_key q ks)
 
 pub twice : (a b : Bool) → (a || b) ≡ (a || (a || b))
 twice true b = refl
@@ -41,18 +33,15 @@ swap true false c = refl
 swap false true c = refl
 swap false false c = refl
 
-has_placed : (q : List ℕ) (k x : Vec ℕ Global) (xs : List (Vec ℕ Global)) (o : Ordering) → order k x ≡ o
-    → is_among q (paths_in (insert_key order xs k)) ≡ bytes_eq q k.items || is_among q (paths_in xs)
-    → is_among q (paths_in (match_ordering o (k ∷ x ∷ xs) (x ∷ xs) (x ∷ insert_key order xs k))) ≡ bytes_eq q k.items || is_among q (paths_in (x ∷ xs))
+has_placed : (q k x : List ℕ) (xs : List (List ℕ)) (o : Ordering) → slice_cmp nat_cmp k x ≡ o
+    → is_among q (insert_key (slice_cmp nat_cmp) xs k) ≡ bytes_eq q k || is_among q xs
+    → is_among q (match_ordering o (k ∷ x ∷ xs) (x ∷ xs) (x ∷ insert_key (slice_cmp nat_cmp) xs k)) ≡ bytes_eq q k || is_among q (x ∷ xs)
 has_placed q k x xs Less is later = refl
-has_placed q k x xs Equal is later =
-    let same : k.items ≡ x.items = exact_bytes k.items x.items is in
-    rw same (twice (bytes_eq q x.items) (is_among q (paths_in xs)))
-has_placed q k x xs Greater is later =
-    ap (λ b. bytes_eq q x.items || b) later ∙ swap (bytes_eq q x.items) (bytes_eq q k.items) (is_among q (paths_in xs))
+has_placed q k x xs Equal is later = rw (exact_bytes k x is) (twice (bytes_eq q x) (is_among q xs))
+has_placed q k x xs Greater is later = ap (λ b. bytes_eq q x || b) later ∙ swap (bytes_eq q x) (bytes_eq q k) (is_among q xs)
 
 -- what is among the paths after one is put to them
-pub has_inserted : (q : List ℕ) (k : Vec ℕ Global) (ks : List (Vec ℕ Global)) → is_among q (paths_in (insert_key order ks k)) ≡ bytes_eq q k.items || is_among q (paths_in ks)
+pub has_inserted : (q k : List ℕ) (ks : List (List ℕ)) → is_among q (insert_key (slice_cmp nat_cmp) ks k) ≡ bytes_eq q k || is_among q ks
 has_inserted q k [] = refl
 has_inserted q k (x ∷ xs) = has_placed q k x xs _ refl (has_inserted q k xs)
 

@@ -70,18 +70,18 @@ fn are_sound(fields: &[Field]) -> bool
     true
 }
 
-fn paths_of(alloc: Global, fields: &[Field]) -> Result<PathSet, NoMemory>
+fn paths_of(alloc: Global, fields: &[Field]) -> Result<PathSet<'_>, NoMemory>
     ensures { IfOk result (λ paths. (q : List ℕ) → is_among q paths ≡ is_among q (spec.field_paths fields.now)) }
 {
     let mut paths = PathSet::new(alloc);
     for field in fields {
-        let _ = paths.insert(alloc, field.path.as_bytes())?;
+        let _ = paths.insert(field.path.as_bytes())?;
     }
     Ok(paths)
 }
 
 /// Whether some field lies below one of some paths.
-fn are_below(fields: &[Field], paths: &PathSet) -> bool
+fn are_below<'a>(fields: &'a [Field], paths: &PathSet<'a>) -> bool
     ensures { result ≡ spec.are_below_any paths.now fields.now }
 {
     for field in fields {

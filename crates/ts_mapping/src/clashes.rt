@@ -14,25 +14,25 @@ use edge_face::{NoMemory, Text};
 use std::alloc::Global;
 
 /// Tells a path that stands before, and puts it to those.
-fn check_path(
+fn check_path<'a>(
     alloc: Global,
-    path: &Text,
-    before: &mut PathSet,
+    path: &'a Text,
+    before: &mut PathSet<'a>,
     least: &mut Least,
 ) -> Result<(), NoMemory>
     ensures told { OnOk result (least.new ≡ least_with least.old (fault_unless (not (is_among path.now before.old)) path.now)) }
     ensures paths { OnOk result ((q : List ℕ) → is_among q before.new ≡ is_among q (path.now ∷ before.old)) }
 {
-    let fresh = before.insert(alloc, path.as_bytes())?;
+    let fresh = before.insert(path.as_bytes())?;
     least.note_unless(alloc, fresh, path.as_str())
 }
 
 /// Tells the paths that stand twice, and gives all paths.
-fn check_repeated(
+fn check_repeated<'a>(
     alloc: Global,
-    properties: &[PropertyAt<'_>],
+    properties: &'a [PropertyAt<'_>],
     least: &mut Least,
-) -> Result<PathSet, NoMemory>
+) -> Result<PathSet<'a>, NoMemory>
     ensures told { OnOk result (least.new ≡ least_with least.old (spec.repeated [] (paths_of (properties_seen properties.now)))) }
     ensures paths { IfOk result (λ paths. (q : List ℕ) → is_among q paths ≡ is_among q (paths_of (properties_seen properties.now))) }
 {
@@ -44,10 +44,10 @@ fn check_repeated(
 }
 
 /// Tells the fields that lie below others, where the paths are those of all fields.
-fn check_below(
+fn check_below<'a>(
     alloc: Global,
-    properties: &[PropertyAt<'_>],
-    paths: &PathSet,
+    properties: &'a [PropertyAt<'_>],
+    paths: &PathSet<'a>,
     least: &mut Least,
 ) -> Result<(), NoMemory>
     ensures { OnOk result (least.new
@@ -67,7 +67,7 @@ pub fn clash(alloc: Global, properties: &[PropertyAt<'_>]) -> Result<Option<Text
 {
     let mut least = Least::new();
     let mut paths = check_repeated(alloc, properties, &mut least)?;
-    let _ = paths.insert(alloc, TIMESTAMP.as_bytes())?;
+    let _ = paths.insert(TIMESTAMP.as_bytes())?;
     check_below(alloc, properties, &paths, &mut least)?;
     Ok(least.into_path())
 }

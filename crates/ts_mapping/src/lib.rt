@@ -16,6 +16,7 @@ mod limits;
 mod looks;
 mod making;
 mod numbers;
+mod path_at;
 mod path_set;
 mod paths;
 mod properties;

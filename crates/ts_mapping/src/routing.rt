@@ -39,13 +39,13 @@ pub fn is_dimension(role: Role) -> bool
 }
 
 /// The paths of the dimensions.
-fn dimensions(alloc: Global, all: &[Field]) -> Result<PathSet, NoMemory>
+fn dimensions(alloc: Global, all: &[Field]) -> Result<PathSet<'_>, NoMemory>
     ensures { IfOk result (λ paths. (q : List ℕ) → is_among q paths ≡ is_among q (fields.dimension_paths all.now)) }
 {
     let mut paths = PathSet::new(alloc);
     for field in all {
         if is_dimension(field.role) {
-            let _ = paths.insert(alloc, field.path.as_bytes())?;
+            let _ = paths.insert(field.path.as_bytes())?;
         }
     }
     Ok(paths)
@@ -64,11 +64,11 @@ pub fn has_dimension(all: &[Field]) -> bool
 }
 
 /// Tells an entry that is no dimension or stands before, and puts it to those.
-fn check_entry(
+fn check_entry<'a>(
     alloc: Global,
-    entry: &Text,
-    dimensions: &PathSet,
-    before: &mut PathSet,
+    entry: &'a Text,
+    dimensions: &PathSet<'a>,
+    before: &mut PathSet<'a>,
     least: &mut Least,
 ) -> Result<(), NoMemory>
     ensures told { OnOk result (least.new
@@ -76,15 +76,15 @@ fn check_entry(
     ensures paths { OnOk result ((q : List ℕ) → is_among q before.new ≡ is_among q (entry.now ∷ before.old)) }
 {
     let dimension = dimensions.has(entry.as_bytes());
-    let fresh = before.insert(alloc, entry.as_bytes())?;
+    let fresh = before.insert(entry.as_bytes())?;
     least.note_unless(alloc, dimension && fresh, entry.as_str())
 }
 
 /// Tells the entries that are no dimension or stand twice.
-fn check_entries(
+fn check_entries<'a>(
     alloc: Global,
-    entries: &[Text],
-    dimensions: &PathSet,
+    entries: &'a [Text],
+    dimensions: &PathSet<'a>,
     least: &mut Least,
 ) -> Result<(), NoMemory>
     ensures { OnOk result (least.new ≡ least_with least.old (spec.bad_entries dimensions.now [] entries.now)) }
@@ -103,7 +103,11 @@ fn are_some(entries: &[Text]) -> bool
 }
 
 /// The least of some entries at fault, or the empty path where there are none.
-fn bad_among(alloc: Global, all: &[Field], entries: &[Text]) -> Result<Option<Text>, NoMemory>
+fn bad_among<'a>(
+    alloc: Global,
+    all: &'a [Field],
+    entries: &'a [Text],
+) -> Result<Option<Text>, NoMemory>
     ensures { IfOk result (λ path. path ≡ least (spec.entry_faults (fields.dimension_paths all.now) (Some entries.now))) }
 {
     let dimensions = dimensions(alloc, all)?;
@@ -115,10 +119,10 @@ fn bad_among(alloc: Global, all: &[Field], entries: &[Text]) -> Result<Option<Te
 
 /// The least entry at fault, or the empty path where there are no entries.
 #[tactic(auto, unfolding(crate::specs::Faults::routing_faults))]
-pub fn bad_entry(
+pub fn bad_entry<'a>(
     alloc: Global,
-    all: &[Field],
-    entries: Option<&[Text]>,
+    all: &'a [Field],
+    entries: Option<&'a [Text]>,
 ) -> Result<Option<Text>, NoMemory>
     ensures { IfOk result (λ path. path ≡ least (spec.routing_faults all.now (option_map (λ es. es.now) entries.entry))) }
 {
@@ -128,18 +132,22 @@ pub fn bad_entry(
     }
 }
 
-fn listed(alloc: Global, entries: &[Text]) -> Result<PathSet, NoMemory>
+fn listed(alloc: Global, entries: &[Text]) -> Result<PathSet<'_>, NoMemory>
     ensures { IfOk result (λ paths. (q : List ℕ) → is_among q paths ≡ is_among q entries.now) }
 {
     let mut paths = PathSet::new(alloc);
     for entry in entries {
-        let _ = paths.insert(alloc, entry.as_bytes())?;
+        let _ = paths.insert(entry.as_bytes())?;
     }
     Ok(paths)
 }
 
 /// The places of the dimensions that are listed.
-fn places(alloc: Global, all: &[Field], entries: Option<&PathSet>) -> Result<Vec<u32>, NoMemory>
+fn places<'a>(
+    alloc: Global,
+    all: &'a [Field],
+    entries: Option<&PathSet<'a>>,
+) -> Result<Vec<u32>, NoMemory>
     requires { length all.now ≤ most_fields }
     ensures { IfOk result (λ places. places.items ≡ fields.routing_from (option_map (λ es. es.now) entries.entry) 0 all.now) }
 {
@@ -152,7 +160,7 @@ fn places(alloc: Global, all: &[Field], entries: Option<&PathSet>) -> Result<Vec
     Ok(places)
 }
 
-fn is_listed(entries: Option<&PathSet>, path: &Text) -> bool
+fn is_listed<'a>(entries: Option<&PathSet<'a>>, path: &'a Text) -> bool
     ensures { result ≡ fields.is_listed (option_map (λ es. es.now) entries.entry) path.now }
 {
     match entries {
@@ -162,7 +170,11 @@ fn is_listed(entries: Option<&PathSet>, path: &Text) -> bool
 }
 
 /// The places of the dimensions that some entries list.
-fn listed_places(alloc: Global, all: &[Field], entries: &[Text]) -> Result<Vec<u32>, NoMemory>
+fn listed_places<'a>(
+    alloc: Global,
+    all: &'a [Field],
+    entries: &'a [Text],
+) -> Result<Vec<u32>, NoMemory>
     requires { length all.now ≤ most_fields }
     ensures { IfOk result (λ places. places.items ≡ fields.routing_from (Some entries.now) 0 all.now) }
 {
@@ -172,7 +184,11 @@ fn listed_places(alloc: Global, all: &[Field], entries: &[Text]) -> Result<Vec<u
 }
 
 /// The places of the fields that route: those of the entries, or all dimensions where there are none.
-pub fn routing(alloc: Global, all: &[Field], entries: Option<&[Text]>) -> Result<Vec<u32>, NoMemory>
+pub fn routing<'a>(
+    alloc: Global,
+    all: &'a [Field],
+    entries: Option<&'a [Text]>,
+) -> Result<Vec<u32>, NoMemory>
     requires { length all.now ≤ most_fields }
     ensures { IfOk result (λ places. places.items ≡ fields.routing_from (option_map (λ es. es.now) entries.entry) 0 all.now) }
 {
