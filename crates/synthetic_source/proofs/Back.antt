@@ -25,8 +25,9 @@ use Rattle.row_cells.specs.JoinLaws.{before_chain}
 use Rattle.row_cells.specs.Joining.{IsIn}
 use Rattle.ts_mapping.specs.Paths.{is_below, timestamp}
 use Rattle.ts_mapping.specs.Readings.{aggregate_of, reading_of}
-use Rattle.ts_mapping.specs.Roles.{is_aggregate, is_date, may_have}
+use Rattle.ts_mapping.specs.Roles.{is_aggregate, may_have}
 use Rattle.ts_mapping.specs.Schemas.{AreApart, AreTemplateFields, IsTemplateField, IsTemplateSchema, time_field}
+use Rattle.ts_mapping.specs.RoleLaws.{date_is}
 use Rattle.synthetic_source.specs.Faults.{fault_at, number_read, fault_by, fault_of, field_at, is_read, leaves_in, mapped_fault, stops_of, time_in, time_of}
 use Rattle.synthetic_source.specs.Levels.{Shown, level, levels, longest, names_of, under, value_at, value_or}
 use Rattle.synthetic_source.specs.Laws.{RebuiltTypes, RebuiltSettles}
@@ -96,22 +97,12 @@ parts_fine kind role p agg is = subst (λ k. mapped_fault k role (parts_data p �
 parts_cell_back : (kind : FieldType) (p : Parts) → kind ≡ Aggregate → IsAggregate p → single_cell kind (parts_data p ∷ []) ≡ Gauge p
 parts_cell_back kind p agg is = subst (λ k. single_cell k (parts_data p ∷ []) ≡ Gauge p) (sym agg) (ap parts_cell (parts_back p is))
 
-date_kind : (kind : FieldType) → is_date kind ≡ true → kind ≡ Date
-date_kind Date is = refl
-date_kind Keyword is = cc
-date_kind Long is = cc
-date_kind Integer is = cc
-date_kind Short is = cc
-date_kind Byte is = cc
-date_kind Boolean is = cc
-date_kind Aggregate is = cc
-
 time_fine : (kind : FieldType) (t : ℤ) → IsInstant t → kind ≡ Date → mapped_fault kind Time (string (instant_text t) ∷ []) ≡ None
 time_fine kind t instant date = subst (λ k. mapped_fault k Time (string (instant_text t) ∷ []) ≡ None) (sym date) (one_fine Date Time (string (instant_text t)) (ap is_some (date_back t instant)))
 
 -- what a field shows is no fault there
 fine : (t : ℤ) (rises : Bool) (kind : FieldType) (role : Role) (c : Cell) → IsInstant t → may_have kind role ≡ true → CellFits false rises kind role 1 c → mapped_fault kind role (ends_of (content t role kind c)) ≡ None
-fine t rises kind Time c instant may fits = time_fine kind t instant (date_kind kind may)
+fine t rises kind Time c instant may fits = time_fine kind t instant (date_is kind may)
 fine t rises kind Dimension Absent instant may fits = refl
 fine t rises kind Dimension (One v) instant may fits = value_fine kind Dimension v fits
 fine t rises kind Dimension (Many vs) instant may fits = absurd fits

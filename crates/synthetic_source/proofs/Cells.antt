@@ -15,6 +15,7 @@ use Rattle.row_cells.specs.Fitting.{IsValueOf, CellFits}
 use Rattle.serde_json.specs.Data.{Data}
 use Rattle.ts_mapping.specs.Roles.{is_aggregate, may_have}
 use Rattle.ts_mapping.specs.Schemas.{AreTemplateFields}
+use Rattle.ts_mapping.specs.RoleLaws.{aggregate_is}
 use Rattle.synthetic_source.specs.Faults.{is_read, mapped_fault, takes_one}
 use Rattle.synthetic_source.specs.Gathered.{AreTimed, IsReadAs, IsTimed, AreRead, IsFaultyAt}
 use Rattle.synthetic_source.specs.Readings.{IsOneRead, FitsOne, wrong_kind}
@@ -66,16 +67,6 @@ whole_counter Byte (Flag b) may is = absurd is
 whole_counter Byte (Word t) may is = absurd is
 whole_counter Boolean v may is = cc
 whole_counter Aggregate v may is = cc
-
-aggregate_is : (kind : FieldType) → is_aggregate kind ≡ true → kind ≡ Aggregate
-aggregate_is Date is = cc
-aggregate_is Keyword is = cc
-aggregate_is Long is = cc
-aggregate_is Integer is = cc
-aggregate_is Short is = cc
-aggregate_is Byte is = cc
-aggregate_is Boolean is = cc
-aggregate_is Aggregate is = refl
 
 pub one_fits : (kind : FieldType) (role : Role) (cell : Cell) → takes_one role ≡ true → may_have kind role ≡ true → FitsOne kind cell → CellFits false true kind role 1 cell
 one_fits kind role Absent taken may fits = absurd fits

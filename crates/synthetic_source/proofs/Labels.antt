@@ -1,11 +1,10 @@
 -- The cells of a document without fault fit the schema, and its labels are short.
-use Rattle.std.proofs.Common.{◌≡◌, ◌+◌, ◌<◌, ◌≤◌, ℕ, zero, suc, List, [], ◌∷◌, ◌++◌, map, length, Bool, true, false, cond, not, ◌||◌, ◌&&◌, nat_lt, Option, Some, None, option_and_then, refl, sym, ap, ◌∙◌, subst, inl, inr, arith, length-append}
-use Rattle.std.specs.List.{list_any}
+use Rattle.std.proofs.Common.{◌≡◌, ◌+◌, ◌≤◌, ℕ, suc, List, [], ◌∷◌, ◌++◌, map, length, Bool, true, false, cond, not, ◌||◌, ◌&&◌, nat_lt, Option, Some, None, refl, sym, ap, ◌∙◌, subst, inl, inr, arith}
 use Rattle.std.specs.Option.{is_some}
 use Rattle.std.specs.Ordering.{match_ordering}
 use Rattle.std.specs.declared.cmp.Ordering.{Ordering}
 use Rattle.std.specs.declared.cmp.Ordering.TheVariants.{Less, Equal, Greater}
-use Rattle.std.specs.declared.result.Result.TheVariants.{Ok, Err}
+use Rattle.std.specs.declared.result.Result.TheVariants.{Ok}
 use Rattle.fold_law.specs.declared.measures.Parts.{Parts}
 use Rattle.row_cells.specs.Dimensions.{IsBefore}
 use Rattle.row_cells.specs.JoinLaws.{before_chain}
@@ -14,7 +13,7 @@ use Rattle.row_cells.specs.Fitting.{AreValues, CellFits, CellsFit, IsValueOf}
 use Rattle.row_cells.specs.KeyedRows.{IsShortList}
 use Rattle.row_cells.specs.Limits.{longest_list}
 use Rattle.row_cells.specs.declared.rows.Cell.{Cell}
-use Rattle.row_cells.specs.declared.rows.Cell.TheVariants.{Absent, One, Many, Gauge}
+use Rattle.row_cells.specs.declared.rows.Cell.TheVariants.{Absent}
 use Rattle.row_cells.specs.declared.scalars.Scalar.{Scalar}
 use Rattle.row_cells.specs.declared.scalars.Scalar.TheVariants.{Whole, Flag, Word}
 use Rattle.row_cells.specs.declared.schemas.Field.{Field}
@@ -30,7 +29,7 @@ use Rattle.json_walk.specs.Path.{Path, behind, below, end, is_stop, text}
 use Rattle.ts_mapping.specs.Readings.{aggregate_of, reading_of}
 use Rattle.ts_mapping.specs.ReadingLaws.{parts_fit, reading_fits}
 use Rattle.ts_mapping.specs.Roles.{is_aggregate, may_have}
-use Rattle.ts_mapping.specs.Schemas.{AreTemplateFields, IsTemplateSchema}
+use Rattle.ts_mapping.specs.Schemas.{AreTemplateFields}
 use Rattle.synthetic_source.specs.Document.{cells_unless, document_cells, first_fault, leaf_paths, or_next}
 use Rattle.synthetic_source.specs.Faults.{fault_at, fault_by, fault_of, field_at, is_read, leaves_in, mapped_fault, stops_of, takes_one}
 use Rattle.synthetic_source.specs.Gathered.{IsAmong, paths_of}
@@ -40,7 +39,7 @@ use Rattle.synthetic_source.specs.Readings.{AllValues, FitsOne, any_unread, wron
 use Rattle.synthetic_source.specs.Rows.{cell_of, cells_of, list_cell, one_cell, parts_cell, readings_of, single_cell, with_reading}
 use Rattle.synthetic_source.specs.Values.{again, ordered, ordered_after, scalar_cmp, with_value}
 use Rattle.synthetic_source.specs.declared.errors.DocKind.{DocKind}
-use Rattle.synthetic_source.specs.declared.errors.DocKind.TheVariants.{BadAggregate, ManyValues, WrongType}
+use Rattle.synthetic_source.specs.declared.errors.DocKind.TheVariants.{ManyValues}
 use Rattle.synthetic_source.proofs.Cells.{one_fits}
 use Rattle.synthetic_source.proofs.Decided.{fault_among}
 use Rattle.synthetic_source.proofs.Documents.{fits_rising, tail_rise}

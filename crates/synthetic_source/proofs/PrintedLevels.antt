@@ -12,7 +12,7 @@ use Rattle.json_walk.specs.Path.{Path, end, text, behind_name}
 use Rattle.synthetic_source.specs.Levels.{Shown, first_name, names_after, names_of, value_at, with_rest, under, members_by, value_or, level}
 use Rattle.synthetic_source.specs.Places.{Rise}
 use Rattle.synthetic_source.proofs.Printable.{names, IsPrintable, MembersPrintable}
-use Rattle.synthetic_source.specs.PrintedLaws.{parts_of}
+use Rattle.synthetic_source.specs.Shallow.{parts_of}
 use Rattle.synthetic_source.proofs.Grouping.{names_rise}
 use Rattle.synthetic_source.proofs.Names.{Parted, whole, parted, parted_path, nats_same}
 

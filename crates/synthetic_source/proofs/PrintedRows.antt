@@ -17,6 +17,7 @@ use Rattle.row_cells.specs.declared.rows.Cell.{Cell}
 use Rattle.row_cells.specs.declared.rows.Cell.TheVariants.{Absent, One, Many, Gauge, Rise}
 use Rattle.row_cells.specs.declared.rows.Row.{Row}
 use Rattle.row_cells.specs.Fitting.{IsNumberOf, IsValueOf, AreValues, AreValuesAfter, CellFits, CellsFit, Fits}
+use Rattle.row_cells.specs.KeyedLaws.{number_fits}
 use Rattle.row_cells.specs.Mapped.{ArePaths}
 use Rattle.serde_json.specs.Data.{string, depth, items_depth}
 use Rattle.serde_json.specs.Find.{of_integer}
@@ -28,7 +29,7 @@ use Rattle.ts_mapping.specs.Schemas.{IsTemplateSchema}
 use Rattle.synthetic_source.specs.Levels.{Shown, longest, levels}
 use Rattle.synthetic_source.specs.Normal.{whole_data, scalar_data, list_data, parts_data, cell_data, shown_cell, shown_as, shown_of, count_shown, shown_row, norm}
 use Rattle.synthetic_source.proofs.Printable.{IsPrintableNumber, IsPrintable, ArePrintable}
-use Rattle.synthetic_source.specs.PrintedLaws.{parts_of, AreShallow, HasSmallSums, HaveSmallSums}
+use Rattle.synthetic_source.specs.Shallow.{parts_of, AreShallow, HasSmallSums, HaveSmallSums}
 use Rattle.synthetic_source.proofs.PrintedLevels.{AreTexts, AreWithin, level_printable, level_depth}
 use Rattle.row_cells.specs.Limits.{most_documents}
 
@@ -37,17 +38,6 @@ use Rattle.row_cells.specs.Limits.{most_documents}
 number_printable : (v : ℤ) → FitsSigned w64 v → IsPrintableNumber (of_integer v)
 number_printable (pos n) h = omega (arith, ints)
 number_printable (negsuc n) h = omega (arith, ints)
-
--- the numbers of each type have 64 bits
-number_fits : (kind : FieldType) (v : ℤ) → IsNumberOf kind v → FitsSigned w64 v
-number_fits Date v is = omega (arith, ints)
-number_fits Keyword v is = absurd is
-number_fits Long v is = is
-number_fits Integer v is = omega (arith, ints)
-number_fits Short v is = omega (arith, ints)
-number_fits Byte v is = omega (arith, ints)
-number_fits Boolean v is = absurd is
-number_fits Aggregate v is = is
 
 instant_printable : (t : ℤ) → IsInstant t → IsUtf8 (instant_text t)
 instant_printable t is = IsUtf8-from_ascii (instant_text t) (instant_text_ascii t is)

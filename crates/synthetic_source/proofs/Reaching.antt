@@ -6,26 +6,13 @@ use Rattle.std.specs.Ordering.{nat_cmp}
 use Rattle.std.proofs.lemmas.Slice.Eq.{bytes_eq-Decides}
 use Rattle.serde_json.specs.Data.{Data, null, boolean, number, string, array, object, Items, no_items, item, Members, no_members, member}
 use Rattle.json_walk.specs.Path.{Path, end, text, behind_name, behind, below, is_stop}
+use Rattle.json_walk.specs.PathLaws.{behind_both}
 use Rattle.json_walk.specs.Leaves.{whole_object, given, at, at_members}
 use Rattle.synthetic_source.specs.Levels.{Shown, first_name, names_after, names_of, value_at, with_rest, under, members_by, value_or, level, longest}
 use Rattle.synthetic_source.specs.Places.{RiseAfter, Rise}
 use Rattle.synthetic_source.proofs.Fuel.{longest_under}
 use Rattle.synthetic_source.proofs.Grouping.{ArePlain, Lacks, lacks_inserted, lacks_later, names_plain, names_rise, same_bytes, other_bytes}
 use Rattle.synthetic_source.proofs.Names.{Parted, whole, parted, parted_path, first_behind, same_nat, nats_same}
-
--- behind two names is behind the first and then behind the second
-behind_both : (q s p : List ℕ) → behind_name (q ++ 46 ∷ s) p ≡ option_and_then (behind s) (behind_name q p)
-behind_both [] s [] = refl
-behind_both [] s (c ∷ t) = go (nat_eq 46 c) where
-  go : (v : Bool) → cond v (behind_name s t) None ≡ option_and_then (behind s) (cond v (Some (text t)) None)
-  go true = refl
-  go false = refl
-behind_both (x ∷ q) s [] = refl
-behind_both (x ∷ q) s (c ∷ t) = go (nat_eq x c) (behind_both q s t) where
-  go : (v : Bool) → behind_name (q ++ 46 ∷ s) t ≡ option_and_then (behind s) (behind_name q t)
-      → cond v (behind_name (q ++ 46 ∷ s) t) None ≡ option_and_then (behind s) (cond v (behind_name q t) None)
-  go true same = same
-  go false same = refl
 
 -- a path that goes on behind a name is the name, a dot and what is left
 goes_on : (s p r : List ℕ) → behind_name s p ≡ Some (text r) → p ≡ s ++ 46 ∷ r

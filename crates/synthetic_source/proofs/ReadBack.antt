@@ -1,5 +1,5 @@
 -- What a value shows is read as the value.
-use Rattle.std.proofs.Common.{◌≡◌, ◌≤ℤ◌, ℤ, pos, negsuc, ◌^◌, length, int_le, Bool, true, false, cond, ◌&&◌, Some, None, option_map, option_and_then, refl, ap, ap₂, ◌∙◌, arith, lt-ltb, FitsSigned}
+use Rattle.std.proofs.Common.{◌≡◌, ◌≤ℤ◌, ℤ, pos, negsuc, ◌^◌, int_le, Bool, true, false, cond, ◌&&◌, Some, None, option_map, option_and_then, refl, ap, ap₂, ◌∙◌, arith, lt-ltb, FitsSigned}
 use Rattle.std.proofs.lemmas.Int.{ints}
 use Rattle.std.specs.Int.{w64}
 use Rattle.fold_law.specs.declared.measures.Parts.{Parts}

@@ -18,6 +18,7 @@ use Rattle.ts_mapping.specs.Paths.{timestamp}
 use Rattle.ts_mapping.specs.Readings.{reading_of}
 use Rattle.ts_mapping.specs.Roles.{is_aggregate, is_date, may_have}
 use Rattle.ts_mapping.specs.Schemas.{AreTemplateFields, IsTemplateSchema}
+use Rattle.ts_mapping.specs.RoleLaws.{date_is}
 use Rattle.synthetic_source.specs.Faults.{mapped_fault, number_read, stops_of, time_in, time_of}
 use Rattle.synthetic_source.specs.Gathered.{AreTimed, IsTimed, by_field}
 use Rattle.synthetic_source.specs.declared.errors.DocKind.TheVariants.{WrongType}
@@ -123,16 +124,6 @@ listed_time fs d are = listed_are_leaves (stops_of fs) d timestamp ∙ time_alon
 
 -- ---- a time that was read has no fault
 
-date_kind : (kind : FieldType) → may_have kind Time ≡ true → kind ≡ Date
-date_kind Date may = refl
-date_kind Keyword may = cc
-date_kind Long may = cc
-date_kind Integer may = cc
-date_kind Short may = cc
-date_kind Byte may = cc
-date_kind Boolean may = cc
-date_kind Aggregate may = cc
-
 sound_time : (ls : List Data) (t : ℤ) → time_in ls ≡ Some t → mapped_fault Date Time ls ≡ None
 sound_time [] t is = cc
 sound_time (l ∷ []) t is = go (reading_of Date l) refl is
@@ -148,7 +139,7 @@ fields_timed (f ∷ fs) es are sound = (by f.role refl, fields_timed fs es are.1
   where
     by : (role : Role) → f.role ≡ role → IsTimed f.kind role (placed_at f.path es)
     by Time is =
-        let kind = date_kind f.kind (subst (λ r. may_have f.kind r ≡ true) is are.0.role) in
+        let kind = date_is f.kind (subst (λ r. may_have f.kind r ≡ true) is are.0.role) in
         subst (λ k. mapped_fault k Time (placed_at f.path es) ≡ None) (sym kind) (subst (λ p. mapped_fault Date Time (placed_at p es) ≡ None) (sym (are.0.time.0 is)) sound)
     by Dimension is = tt
     by Gauge is = tt

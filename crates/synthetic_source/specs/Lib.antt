@@ -9,11 +9,11 @@ pub mod Levels
 pub mod Normal
 pub mod Outcomes
 pub mod Places
-pub mod PrintedLaws
 pub mod Readings
 pub mod Replies
 pub mod Rows
 pub mod Seen
+pub mod Shallow
 pub mod Sides
 pub mod Smalls
 pub mod Sorts

@@ -7,7 +7,7 @@ ghost use Rattle.synthetic_source.specs.Places.{Rise, place_among, seen_place as
 ghost use Rattle.synthetic_source.specs.Seen.{content_data, group_names, path_bytes, seen_all, seen_cut, seen_group, seen_groups};
 
 use crate::content::Content;
-use edge_face::NoMemory;
+use edge_face::{NoMemory, bytes_order};
 use std::alloc::Global;
 use std::cmp::Ordering;
 
@@ -88,7 +88,7 @@ fn new_group<'a>(alloc: Global, path: Cut<'a>, content: Content<'a>) -> Result<G
 fn compare_name(group: &Group<'_>, name: &str) -> Ordering
     ensures { result ≡ slice_cmp nat_cmp group.now.name.now name.now }
 {
-    group.name.cmp(name)
+    bytes_order(group.name.as_bytes(), name.as_bytes())
 }
 
 fn search_group(groups: &[Group<'_>], name: &str) -> Result<usize, usize>
@@ -108,7 +108,8 @@ fn search_group(groups: &[Group<'_>], name: &str) -> Result<usize, usize>
     Err(low)
 }
 
-// The place of the group of a name. Paths mostly come in the order of their names, so the last group is looked at first.
+// The place of the group of a name. Paths mostly come in the order of their names, so the last group is looked at first. Since
+// paths ascend, a name comes before others only where it begins them.
 fn find_group(groups: &[Group<'_>], name: &str) -> Result<usize, usize>
     requires { Rise (group_names groups.now) }
     ensures { place result ≡ place_among name.now (group_names groups.now) }

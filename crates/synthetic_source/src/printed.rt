@@ -1,5 +1,5 @@
 //! What holds of the printed text of rebuilt documents.
-ghost use Rattle.synthetic_source.specs.PrintedLaws.{PrintedReadsBack, PrintedFoldReadsBack};
+ghost use Rattle.synthetic_source.specs.Laws.{PrintedReadsBack, PrintedFoldReadsBack};
 
 /// The text that `print` makes of a rebuilt document of a raw schema, `read_line` reads as the row's normal form, where no
 /// mapped path has more than 126 parts (a reader takes at most 127 levels). For a folded schema it does so where each sum
