@@ -10,7 +10,6 @@ mod MachineLemmas
 mod SoundLemmas
 mod UnitLemmas
 mod TurnLemmas
-mod FirstLemmas
 mod OrderLemmas
 mod GivenUpLemmas
 mod MessageLemmas

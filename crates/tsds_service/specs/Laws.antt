@@ -1,8 +1,7 @@
 -- What is seen of a machine answers as the machine.
-use Rattle.std.specs.Prelude.{◌≡◌, ◌≤◌, ℕ, ℤ, Bool, List, length, take, Option, None, Some, Ok, map}
+use Rattle.std.specs.Prelude.{◌≡◌, ◌≤◌, ℕ, ℤ, Bool, List, length, Option, None, Some, map}
 use Rattle.std.specs.Option.{option_map}
 use Rattle.bulk_json.specs.Items.{bulk_of}
-use Rattle.bulk_json.specs.declared.items.Item.{Item}
 use Rattle.edge_face.specs.Limits.{body_limit}
 use Rattle.rest_request.specs.Asked.{IsAsked}
 use Rattle.rest_request.specs.Message.{Message}
@@ -12,12 +11,10 @@ use Rattle.row_cells.specs.Joining.{FieldsAgree}
 use Rattle.row_cells.specs.declared.rows.Cell.{Cell}
 use Rattle.row_cells.specs.declared.schemas.Schema.{Schema}
 use Rattle.series_id.specs.Keys.{keyed}
-use Rattle.stream_catalog.specs.Plain.{PlainIndex, PlainCatalog}
-use Rattle.stream_catalog.specs.Sound.{IsSoundCatalog}
-use Rattle.stream_catalog.specs.Ways.{plain_way, seen_way, see_index, see_catalog}
-use Rattle.stream_catalog.specs.WellNamed.{IsWellNamed}
+use Rattle.stream_catalog.specs.Plain.{PlainIndex}
+use Rattle.stream_catalog.specs.Ways.{plain_way, seen_way, see_index}
 use Rattle.time_text.specs.Instant.{IsInstant}
-use Rattle.tsds_service.specs.Bulk.{key_of, items_of, outcomes_of, after_first}
+use Rattle.tsds_service.specs.Bulk.{key_of, items_of}
 use Rattle.tsds_service.specs.CausedLaws.{IsSameWithCauses}
 use Rattle.tsds_service.specs.Causes.{request_cause, bulk_cause, key_cause}
 use Rattle.tsds_service.specs.Machine.{Machine, empty_machine, see, unit, units, IsSound, IsSeen}
@@ -52,19 +49,6 @@ UnitsStand = (m : Machine) → IsSeen m → unit seen_way m ≡ see (unit plain_
 abbrev pub TargetsAgree : Type 0
 TargetsAgree = (m : Machine) (name : List ℕ) (is : List PlainIndex) → IsSound m → target_of m.catalog name ≡ Some is →
     Each (λ i. Each (λ j. FieldsAgree i.facts.mapping.schema.fields j.facts.mapping.schema.fields) is) is
-
--- ---- the first items of a bulk request
-
--- after the first k of a body's items both have told the same outcomes, and what is seen is left as what is seen of the catalogue,
--- which is left sound, with well-formed names
-pub record FirstAlike (c : PlainCatalog) (k : ℕ) (items : List Item) : Type 0 where
-  pub told : outcomes_of seen_way (see_catalog c) (take k items) ≡ outcomes_of plain_way c (take k items)
-  pub left : after_first seen_way (see_catalog c) k items ≡ see_catalog (after_first plain_way c k items)
-  pub sound : IsSoundCatalog (after_first plain_way c k items)
-  pub names : IsWellNamed (after_first plain_way c k items)
-
-abbrev pub FirstsRefine : Type 0
-FirstsRefine = (m : Machine) (path : Option (List ℕ)) (body : List ℕ) (items : List Item) (k : ℕ) → IsSound m → length body ≤ body_limit → bulk_of path body ≡ Ok items → FirstAlike m.catalog k items
 
 -- ---- causes
 

@@ -1,7 +1,7 @@
 //! The laws that tie a plain machine to what is seen of it, for crates above.
 ghost use Rattle.tsds_service.specs.Laws.{SamplesStay, SeenAgain, StepsRefine, StepsStand, UnitsRefine, UnitsStand};
 ghost use Rattle.tsds_service.specs.Laws.{EmptyIsSeen, ManyUnitsKeepSeen, ManyUnitsKeepSound, ManyUnitsRefine, ManyUnitsStand, StepsKeepSeen, StepsKeepSound, UnitsKeepSeen, UnitsKeepSound};
-ghost use Rattle.tsds_service.specs.Laws.{CausesStand, FirstsRefine, MessagesRefine, MomentsAreInstants, TargetsAgree, TurnsRefine, TurnsStand};
+ghost use Rattle.tsds_service.specs.Laws.{CausesStand, MessagesRefine, MomentsAreInstants, TargetsAgree, TurnsRefine, TurnsStand};
 
 use stream_catalog::{
     changes_go_through, changes_keep_sound, indices_are_sound, names_keep, seen_again, tests_stay,
@@ -79,20 +79,6 @@ pub fn many_units()
 {
     units_keep();
     steps_refine();
-}
-
-/// After the first items of a bulk request, however many, both have told the same outcomes, and what is seen is left as what is
-/// seen of the catalogue, which is sound.
-pub fn first_items()
-    ensures { FirstsRefine }
-{
-    bodies_are_templates();
-    cells_of_documents_fit();
-    tests_stay();
-    indices_are_sound();
-    changes_go_through();
-    changes_keep_sound();
-    names_keep();
 }
 
 /// A step of a request that is read leaves a sound machine sound, and one that is seen again itself so too.

@@ -9,8 +9,8 @@ mod target_laws;
 
 pub use given_up_laws::{given_up_keep, given_up_refine};
 pub use laws::{
-    causes_stand, first_items, machines_are_seen, machines_begin, many_units, messages,
-    samples_stay, steps_keep, steps_refine, steps_stand, targets_agree, turns, units_keep,
+    causes_stand, machines_are_seen, machines_begin, many_units, messages, samples_stay,
+    steps_keep, steps_refine, steps_stand, targets_agree, turns, units_keep,
 };
 pub use message_laws::{messages_stand, runs_begin};
 pub use reply::Reply;
