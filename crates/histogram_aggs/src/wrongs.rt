@@ -7,7 +7,7 @@ ghost use Rattle.histogram_aggs.specs.Seen.{seen};
 ghost use Rattle.histogram_aggs.specs.SeenWrongs.{seen_wrong};
 
 use crate::aggs::{Agg, AggKind};
-use edge_face::Text;
+use edge_face::{Text, bytes_order};
 use row_cells::{Field, FieldType, Role};
 use std::cmp::Ordering;
 
@@ -139,7 +139,7 @@ pub fn field_at(fields: &[Field], place: Option<u32>) -> Option<&Field>
 fn order(left: Wrong<'_>, right: Wrong<'_>) -> Ordering
     ensures { result ≡ wrong_cmp (seen_wrong left.entry) (seen_wrong right.entry) }
 {
-    match left.path.as_bytes().cmp(right.path.as_bytes()) {
+    match bytes_order(left.path.as_bytes(), right.path.as_bytes()) {
         Ordering::Less => Ordering::Less,
         Ordering::Greater => Ordering::Greater,
         Ordering::Equal => left.kind.cmp(right.kind),

@@ -2,7 +2,7 @@
 ghost use Rattle.std.specs.Prelude.{◌≡◌, None, Some, OnOk};
 ghost use Rattle.search_filter.specs.Faults.{worse};
 
-use edge_face::{NoMemory, Text};
+use edge_face::{NoMemory, Text, bytes_order};
 use std::alloc::Global;
 use std::cmp::Ordering;
 use std::marker::Model;
@@ -56,7 +56,7 @@ impl Faults {
         match &self.held {
             None => {}
             Some(Fault::Shape) => return Ok(()),
-            Some(Fault::WrongValue(held)) => match path.cmp(held.as_str()) {
+            Some(Fault::WrongValue(held)) => match bytes_order(path.as_bytes(), held.as_bytes()) {
                 Ordering::Less => {}
                 Ordering::Equal | Ordering::Greater => return Ok(()),
             },

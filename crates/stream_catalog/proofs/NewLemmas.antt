@@ -1,9 +1,8 @@
 -- Catalogues stay sound with a new stream, and with a new write index.
 use Rattle.std.specs.Prelude.{◌≡◌, ℕ, suc, ℤ, ◌+ℤ◌, ◌≤◌, ◌<◌, ◌<ℤ◌, Bool, not, true, false, nat_le, codes, List, [], ◌∷◌, ◌++◌, map, length, Option, Some, None, if◌then◌else◌, bytes_eq}
 use Rattle.std.specs.Option.{is_some}
-use Rattle.std.specs.Ordering.{is_le, nat_cmp, ordering_reverse}
-use Rattle.std.specs.Cmp.Lexicographic.{slice_cmp, nat_list_cmp_total}
-use Rattle.std.specs.declared.cmp.Ordering.TheVariants.{Less, Greater}
+use Rattle.std.specs.Ordering.{is_le, nat_cmp}
+use Rattle.std.specs.Cmp.Lexicographic.{slice_cmp}
 use Rattle.std.proofs.Common.{refl, ap, ◌∙◌, sym, subst, arith, inl, inr, length-append}
 use Rattle.std.proofs.lemmas.Bool.{leb-false, false_from_ne_true}
 use Rattle.std.proofs.lemmas.Slice.Eq.{bytes_eq-Decides}
@@ -14,6 +13,7 @@ use Rattle.row_cells.specs.EachLaws.{Each-weaker, Each-both}
 use Rattle.row_cells.specs.Fitting.{FieldsAscendAfter}
 use Rattle.row_cells.specs.Joining.{FieldsAgree}
 use Rattle.row_cells.specs.JoinLaws.{in_after}
+use Rattle.row_cells.specs.WidenLaws.{apart}
 use Rattle.time_text.specs.Instant.{IsInstant}
 use Rattle.downsample_fold.specs.Laws.{KeysAscend}
 use Rattle.index_names.specs.Backing.{backing_name, behind_stream, is_reserved}
@@ -43,16 +43,8 @@ use Rattle.stream_catalog.proofs.WindowLemmas.{first_begins, first_opens, ends_i
 
 -- ---- a template that is there is found by its name
 
-before_other : (a b : List ℕ) → IsBefore a b → a ≡ b → ⊥
-before_other a b before same =
-    let here : slice_cmp nat_cmp a a ≡ Less = subst (λ x. slice_cmp nat_cmp a x ≡ Less) (sym same) before in
-    less_greater (sym here ∙ (nat_list_cmp_total.antisymm a a ∙ ap ordering_reverse here))
-  where
-    less_greater : Less ≡ Greater → ⊥
-    less_greater e = cc
-
 pub before_apart : (a b : List ℕ) → IsBefore a b → bytes_eq a b ≡ false
-before_apart a b before = false_from_ne_true (bytes_eq a b) (λ is. before_other a b before ((bytes_eq-Decides a b).0 is))
+before_apart a b before = false_from_ne_true (bytes_eq a b) (λ is. apart a b before ((bytes_eq-Decides a b).0 is))
 
 pub all_found : {A : Type 0} (name : A → List ℕ) (xs : List A) → KeysAscend (map name xs) → Each (λ x. found_by name (name x) xs ≡ Some x) xs
 all_found name [] ascend = tt
@@ -87,10 +79,10 @@ fields_one p [] ascend f g in_f in_g same = absurd in_f
 fields_one p (x ∷ xs) ascend f g in_f in_g same = elim in_f [
   | inl f_is ↦ elim in_g [
     | inl g_is ↦ f_is ∙ sym g_is
-    | inr later ↦ absurd (before_other x.path g.path (in_after x.path g xs ascend.1 later) (sym (ap (λ (y : Field). y.path) f_is) ∙ same))
+    | inr later ↦ absurd (apart x.path g.path (in_after x.path g xs ascend.1 later) (sym (ap (λ (y : Field). y.path) f_is) ∙ same))
   ]
   | inr f_later ↦ elim in_g [
-    | inl g_is ↦ absurd (before_other x.path f.path (in_after x.path f xs ascend.1 f_later) (sym (ap (λ (y : Field). y.path) g_is) ∙ sym same))
+    | inl g_is ↦ absurd (apart x.path f.path (in_after x.path f xs ascend.1 f_later) (sym (ap (λ (y : Field). y.path) g_is) ∙ sym same))
     | inr g_later ↦ fields_one x.path xs ascend.1 f g f_later g_later same
   ]
 ]

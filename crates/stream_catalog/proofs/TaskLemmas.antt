@@ -6,7 +6,7 @@ use Rattle.std.proofs.Common.{refl, ap, ◌∙◌, sym, subst, inl, inr}
 use Rattle.std.proofs.lemmas.Bool.{both_ways}
 use Rattle.std.proofs.lemmas.Slice.Eq.{bytes_eq-Decides}
 use Rattle.row_cells.specs.Each.{Each}
-use Rattle.row_cells.specs.EachLaws.{Each-weaker, Each-filter}
+use Rattle.row_cells.specs.EachLaws.{Each-all, Each-weaker, Each-filter}
 use Rattle.row_cells.specs.declared.rows.Row.{Row}
 use Rattle.downsample_fold.specs.Direct.{down}
 use Rattle.downsample_fold.specs.Laws.{series_of, rows_of_first}
@@ -64,12 +64,8 @@ record From (is : List PlainIndex) (n : List ℕ) (j : PlainIndex) : Type 0 wher
 abbrev AllFrom : List PlainIndex → List PlainIndex → Type 0
 AllFrom is js = (n : List ℕ) (j : PlainIndex) → index_named n js ≡ Some j → From is n j
 
-each_all : {A : Type 0} (P : A → Type 0) → ((a : A) → P a) → (xs : List A) → Each P xs
-each_all P all [] = tt
-each_all P all (x ∷ xs) = (all x, each_all P all xs)
-
 keeps_from : (c d : PlainCatalog) → AllFrom c.indices d.indices → KeepsTasks c d
-keeps_from c d from = each_all (λ t. (i j : PlainIndex) → index_named t.index c.indices ≡ Some i → index_named t.index d.indices ≡ Some j → kept_rows t j ≡ kept_rows t i) one c.tasks
+keeps_from c d from = Each-all (λ t. (i j : PlainIndex) → index_named t.index c.indices ≡ Some i → index_named t.index d.indices ≡ Some j → kept_rows t j ≡ kept_rows t i) one c.tasks
   where
     one : (t : TaskFacts) (i j : PlainIndex) → index_named t.index c.indices ≡ Some i → index_named t.index d.indices ≡ Some j → kept_rows t j ≡ kept_rows t i
     one t i j old new =
@@ -123,7 +119,7 @@ from_fewer stays is n j there = by_test (stays n) refl
 
 -- one index more, of a new name
 keeps_more : (c d : PlainCatalog) (x : PlainIndex) (left : List PlainIndex) → d.indices ≡ inserted index_name x left → AllFrom c.indices left → times (index_name x) (map index_name c.indices) ≡ 0 → KeepsTasks c d
-keeps_more c d x left is from fresh = each_all (λ t. (i j : PlainIndex) → index_named t.index c.indices ≡ Some i → index_named t.index d.indices ≡ Some j → kept_rows t j ≡ kept_rows t i) one c.tasks
+keeps_more c d x left is from fresh = Each-all (λ t. (i j : PlainIndex) → index_named t.index c.indices ≡ Some i → index_named t.index d.indices ≡ Some j → kept_rows t j ≡ kept_rows t i) one c.tasks
   where
     one : (t : TaskFacts) (i j : PlainIndex) → index_named t.index c.indices ≡ Some i → index_named t.index d.indices ≡ Some j → kept_rows t j ≡ kept_rows t i
     one t i j old new =

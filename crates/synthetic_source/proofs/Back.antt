@@ -23,6 +23,7 @@ use Rattle.row_cells.specs.Dimensions.{IsBefore}
 use Rattle.row_cells.specs.Fitting.{AreValues, AreValuesAfter, CellFits, CellsFit, FieldsAscendAfter, Fits, IsAggregate, IsValueOf}
 use Rattle.row_cells.specs.JoinLaws.{before_chain}
 use Rattle.row_cells.specs.Joining.{IsIn}
+use Rattle.row_cells.specs.WidenLaws.{apart as not_same, other_bytes, same_bytes}
 use Rattle.ts_mapping.specs.Paths.{is_below, timestamp}
 use Rattle.ts_mapping.specs.Readings.{aggregate_of, reading_of}
 use Rattle.ts_mapping.specs.Roles.{is_aggregate, may_have}
@@ -35,7 +36,7 @@ use Rattle.synthetic_source.specs.Normal.{count_shown, norm, parts_data, scalar_
 use Rattle.synthetic_source.specs.Readings.{AllValues}
 use Rattle.synthetic_source.specs.Rows.{IsTyped, cell_of, cells_of, list_cell, parts_cell, readings_of, single_cell, with_reading}
 use Rattle.synthetic_source.specs.Values.{ordered}
-use Rattle.synthetic_source.proofs.Grouping.{names_plain, names_rise, not_same, other_bytes, same_bytes}
+use Rattle.synthetic_source.proofs.Grouping.{names_plain, names_rise}
 use Rattle.synthetic_source.proofs.Ordered.{stay_ordered}
 use Rattle.synthetic_source.proofs.Reaching.{IsClosed, IsTidy, ends, ends_of, has_or_lacks, none_at, none_longest, reached}
 use Rattle.synthetic_source.proofs.ReadBack.{date_back, parts_back, reads_back}

@@ -15,6 +15,7 @@ use Rattle.row_cells.specs.declared.rows.Cell.{Cell}
 use Rattle.row_cells.specs.declared.schemas.FieldType.{FieldType}
 use Rattle.row_cells.specs.declared.schemas.Role.{Role}
 use Rattle.row_cells.specs.declared.schemas.Role.TheVariants.{Time, Dimension, Gauge as GaugeRole, Counter, Label}
+use Rattle.row_cells.specs.WidenLaws.{apart, other_bytes, same_bytes}
 use Rattle.serde_json.specs.Data.{Data}
 use Rattle.json_walk.specs.Leaves.{AreLeaves, leaves_of, placed_at}
 use Rattle.ts_mapping.specs.Paths.{timestamp}
@@ -34,7 +35,6 @@ use Rattle.synthetic_source.specs.declared.typing.Outcome.{Outcome}
 use Rattle.synthetic_source.specs.declared.typing.Outcome.TheVariants.{Row, Fault}
 use Rattle.synthetic_source.proofs.LeastPath.{is_less}
 use Rattle.synthetic_source.proofs.Search.{fields_rise, same_element}
-use Rattle.synthetic_source.proofs.Grouping.{same_bytes, other_bytes, not_same}
 
 pub tail_rise : (q : List ℕ) (fs : List Field) → RiseAfter q (paths_of fs) → Rise (paths_of fs)
 tail_rise q [] rise = tt
@@ -44,7 +44,7 @@ pub field_later : (p q : List ℕ) (fs : List Field) → IsBefore p q → RiseAf
 field_later p q [] before rise = refl
 field_later p q (f ∷ fs) before rise =
     let on = before_chain p q f.path before rise.0 in
-    ap (λ b. cond b (Some f) (field_at p fs)) (other_bytes p f.path (not_same p f.path on)) ∙ field_later p f.path fs on rise.1
+    ap (λ b. cond b (Some f) (field_at p fs)) (other_bytes p f.path (apart p f.path on)) ∙ field_later p f.path fs on rise.1
 
 none_later : (q : Place) → found_if q.found q.at ≡ None → found_if q.found (suc q.at) ≡ None
 none_later q none = by q.found none
@@ -68,10 +68,10 @@ no_field p (f ∷ fs) rise none = go (slice_cmp nat_cmp p f.path) refl none (no_
     go : (o : Ordering) → slice_cmp nat_cmp p f.path ≡ o
         → found_if (match_ordering o (record { at = 0; found = false }) (record { at = 0; found = true }) (later_place (place_among p (paths_of fs)))).found (match_ordering o (record { at = 0; found = false }) (record { at = 0; found = true }) (later_place (place_among p (paths_of fs)))).at ≡ None
         → (place_of p fs ≡ None → field_at p fs ≡ None) → field_at p (f ∷ fs) ≡ None
-    go Less is none later = ap (λ b. cond b (Some f) (field_at p fs)) (other_bytes p f.path (not_same p f.path is)) ∙ field_later p f.path fs is rise
+    go Less is none later = ap (λ b. cond b (Some f) (field_at p fs)) (other_bytes p f.path (apart p f.path is)) ∙ field_later p f.path fs is rise
     go Equal is none later = cc
     go Greater is none later =
-        ap (λ b. cond b (Some f) (field_at p fs)) (other_bytes p f.path (λ same. not_same f.path p (before_of_after p f.path is) (sym same))) ∙ later (none_earlier (place_among p (paths_of fs)) none)
+        ap (λ b. cond b (Some f) (field_at p fs)) (other_bytes p f.path (λ same. apart f.path p (before_of_after p f.path is) (sym same))) ∙ later (none_earlier (place_among p (paths_of fs)) none)
 
 no_place : (p : List ℕ) (fs : List Field) → Rise (paths_of fs) → field_at p fs ≡ None → place_of p fs ≡ None
 no_place p [] rise none = refl
@@ -87,7 +87,7 @@ no_place p (f ∷ fs) rise none = go (slice_cmp nat_cmp p f.path) refl (no_place
         let some : Some f ≡ None = sym (ap (λ b. cond b (Some f) (field_at p fs)) (same_bytes p f.path (exact_bytes p f.path is))) ∙ none in
         cc
     go Greater is later =
-        none_later (place_among p (paths_of fs)) (later (rest (other_bytes p f.path (λ same. not_same f.path p (before_of_after p f.path is) (sym same)))))
+        none_later (place_among p (paths_of fs)) (later (rest (other_bytes p f.path (λ same. apart f.path p (before_of_after p f.path is) (sym same)))))
 
 -- ---- leaves where no field is
 
@@ -177,7 +177,7 @@ read_cells_fit rises (f ∷ fs) (ls ∷ lss) (c ∷ cs) read = (fits_rising rise
 sound_field : (p : List ℕ) (fs : List Field) (es : List (List ℕ × Data)) (n : ℕ) (k : DocKind) (d f : Field) → Rise (paths_of fs) → IsFaultyAt n k fs (by_field fs es) → IsBefore p (get_or fs n d).path → field_at p fs ≡ Some f → mapped_fault f.kind f.role (placed_at p es) ≡ None
 sound_field p [] es n k d f rise faulty before some = cc
 sound_field p (g ∷ gs) es zero k d f rise faulty before some =
-    let none = ap (λ b. cond b (Some g) (field_at p gs)) (other_bytes p g.path (not_same p g.path before)) ∙ field_later p g.path gs before rise in
+    let none = ap (λ b. cond b (Some g) (field_at p gs)) (other_bytes p g.path (apart p g.path before)) ∙ field_later p g.path gs before rise in
     let bad : None ≡ Some f = sym none ∙ some in
     cc
 sound_field p (g ∷ gs) es (suc n) k d f rise faulty before some = go (bytes_eq p g.path) refl some (λ s. sound_field p gs es n k d f (tail_rise g.path gs rise) faulty.1 before s)
@@ -200,7 +200,7 @@ faulty_field (g ∷ gs) es zero k d rise faulty = (ap (λ b. cond b (Some g) (fi
 faulty_field (g ∷ gs) es (suc n) k d rise faulty =
     let rest = faulty_field gs es n k d (tail_rise g.path gs rise) faulty.1 in
     let after = path_after g.path gs n d rise rest.2 in
-    (ap (λ b. cond b (Some g) (field_at (get_or gs n d).path gs)) (other_bytes (get_or gs n d).path g.path (λ same. not_same g.path (get_or gs n d).path after (sym same))) ∙ rest.0, rest.1, omega (arith, rest.2))
+    (ap (λ b. cond b (Some g) (field_at (get_or gs n d).path gs)) (other_bytes (get_or gs n d).path g.path (λ same. apart g.path (get_or gs n d).path after (sym same))) ∙ rest.0, rest.1, omega (arith, rest.2))
   where
     path_after : (p : List ℕ) (fs : List Field) (n : ℕ) (d : Field) → RiseAfter p (paths_of fs) → n < length fs → IsBefore p (get_or fs n d).path
     path_after p [] n d rise below = absurd (omega arith)

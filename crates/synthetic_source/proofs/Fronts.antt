@@ -12,6 +12,7 @@ use Rattle.row_cells.specs.declared.schemas.Field.{Field}
 use Rattle.ts_mapping.specs.Paths.{is_among, is_below}
 use Rattle.ts_mapping.specs.Schemas.{AreTemplateFields}
 use Rattle.row_cells.specs.Limits.{longest_path}
+use Rattle.row_cells.specs.WidenLaws.{other_bytes}
 use Rattle.ts_mapping.specs.PathLaws.{none_below, short_path}
 use Rattle.synthetic_source.specs.Fronts.{AreFronts, IsClear, IsKnown, IsTold, SharesFront, held_path, path_at}
 use Rattle.synthetic_source.specs.Faults.{stray_fault}
@@ -19,7 +20,6 @@ use Rattle.synthetic_source.specs.Gathered.{paths_of, place_of}
 use Rattle.synthetic_source.specs.Walked.{comes_first, least_step, or_held, seen_fault}
 use Rattle.synthetic_source.specs.declared.errors.DocKind.{DocKind}
 use Rattle.synthetic_source.specs.declared.strays.Strays.{Strays}
-use Rattle.synthetic_source.proofs.Grouping.{other_bytes}
 use Rattle.synthetic_source.proofs.Near.{Bytes, any_paths, below, same, above, bytes_are}
 
 pub take_next : (xs ys : List ℕ) (n : ℕ) → n < length xs → n < length ys → get_or xs n 0 ≡ get_or ys n 0 → take n xs ≡ take n ys → take (n + 1) xs ≡ take (n + 1) ys

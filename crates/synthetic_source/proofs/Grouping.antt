@@ -7,9 +7,9 @@ use Rattle.std.specs.Ordering.{nat_cmp, match_ordering}
 use Rattle.std.specs.declared.cmp.Ordering.{Ordering}
 use Rattle.std.specs.declared.cmp.Ordering.TheVariants.{Less, Equal, Greater}
 use Rattle.std.proofs.lemmas.Map.Lookups.{exact_bytes}
-use Rattle.std.proofs.lemmas.Slice.Eq.{bytes_eq-Decides}
 use Rattle.row_cells.specs.Dimensions.{IsBefore}
-use Rattle.row_cells.specs.JoinLaws.{before_chain, not_before_itself, before_of_after}
+use Rattle.row_cells.specs.JoinLaws.{before_chain, before_of_after}
+use Rattle.row_cells.specs.WidenLaws.{apart as not_same, other_bytes, same_bytes}
 use Rattle.serde_json.specs.Data.{Data}
 use Rattle.json_walk.specs.Path.{Path, end, text, behind_name}
 use Rattle.synthetic_source.specs.Levels.{Shown, first_name, names_after, names_of, value_at, with_rest, under}
@@ -119,9 +119,6 @@ abbrev pub Lacks : List ℕ → List (List ℕ) → Type 0
 Lacks s [] = Unit {0}
 Lacks s (t ∷ ts) = (s ≡ t → ⊥) × Lacks s ts
 
-pub not_same : (s t : List ℕ) → IsBefore s t → s ≡ t → ⊥
-not_same s t before same = not_before_itself t (subst (λ u. IsBefore u t) same before)
-
 pub lacks_after : (s t : List ℕ) (ts : List (List ℕ)) → IsBefore s t → RiseAfter t ts → Lacks s ts
 lacks_after s t [] before rise = tt
 lacks_after s t (u ∷ us) before rise =
@@ -164,16 +161,6 @@ under-append s (x ∷ xs) e = go (behind_name s x.path) (under-append s xs e)
     go None later = later
     go (Some end) later = later
     go (Some (text r)) later = ap (λ ys. record { path = r; value = x.value } ∷ ys) later
-
-pub same_bytes : (s p : List ℕ) → s ≡ p → bytes_eq s p ≡ true
-same_bytes s p same = (bytes_eq-Decides s p).1 same
-
-pub other_bytes : (s p : List ℕ) → (s ≡ p → ⊥) → bytes_eq s p ≡ false
-other_bytes s p other = go (bytes_eq s p) refl
-  where
-    go : (v : Bool) → bytes_eq s p ≡ v → v ≡ false
-    go true is = absurd (other ((bytes_eq-Decides s p).0 is))
-    go false is = refl
 
 longer : (s r : List ℕ) → s ≡ s ++ 46 ∷ r → ⊥
 longer s r same = omega (arith, ap length same, length-append s (46 ∷ r))

@@ -22,6 +22,7 @@ use Rattle.row_cells.specs.declared.schemas.FieldType.TheVariants.{Date, Keyword
 use Rattle.row_cells.specs.declared.schemas.Role.{Role}
 use Rattle.row_cells.specs.declared.schemas.Role.TheVariants.{Time, Dimension, Gauge as GaugeRole, Counter, Label}
 use Rattle.row_cells.specs.declared.schemas.Schema.{Schema}
+use Rattle.row_cells.specs.WidenLaws.{apart, other_bytes, same_bytes}
 use Rattle.serde_json.specs.Data.{Data, null, boolean, number, string, array, object, Items, no_items, item, Members, no_members, member}
 use Rattle.json_walk.specs.Counted.{leaf_count, items_leaves, members_leaves}
 use Rattle.json_walk.specs.Leaves.{at, at_items, at_members, given, leaf, leaves_of, whole_object}
@@ -43,7 +44,6 @@ use Rattle.synthetic_source.specs.declared.errors.DocKind.TheVariants.{ManyValue
 use Rattle.synthetic_source.proofs.Cells.{one_fits}
 use Rattle.synthetic_source.proofs.Decided.{fault_among}
 use Rattle.synthetic_source.proofs.Documents.{fits_rising, tail_rise}
-use Rattle.synthetic_source.proofs.Grouping.{not_same, other_bytes, same_bytes}
 use Rattle.synthetic_source.proofs.Search.{fields_rise}
 use Rattle.synthetic_source.proofs.Values.{ordered_fits}
 
@@ -318,7 +318,7 @@ after_all p q (r ∷ rs) before rise = (before_chain p q r before rise.0, rise.1
 later_there : (f : Field) (all gs : List Field) → RiseAfter f.path (paths_of gs) → Each (λ (g : Field). field_at g.path all ≡ Some g) gs → Each (λ (g : Field). field_at g.path (f ∷ all) ≡ Some g) gs
 later_there f all [] rise each = tt
 later_there f all (g ∷ gs) rise each = (
-  ap (λ b. cond b (Some f) (field_at g.path all)) (other_bytes g.path f.path (λ same. not_same f.path g.path rise.0 (sym same))) ∙ each.0,
+  ap (λ b. cond b (Some f) (field_at g.path all)) (other_bytes g.path f.path (λ same. apart f.path g.path rise.0 (sym same))) ∙ each.0,
   later_there f all gs (after_all f.path g.path (paths_of gs) rise.0 rise.1) each.1,
 )
 

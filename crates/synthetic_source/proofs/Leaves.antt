@@ -9,13 +9,13 @@ use Rattle.std.proofs.lemmas.Map.Lookups.{exact_bytes}
 use Rattle.row_cells.specs.Dimensions.{IsBefore}
 use Rattle.row_cells.specs.JoinLaws.{before_chain, before_of_after}
 use Rattle.row_cells.specs.declared.schemas.Field.{Field}
+use Rattle.row_cells.specs.WidenLaws.{apart, other_bytes, same_bytes}
 use Rattle.serde_json.specs.Data.{Data}
 use Rattle.json_walk.specs.Leaves.{placed_at}
 use Rattle.synthetic_source.specs.Gathered.{add_if, by_field, leaves_after, paths_of, place_of, slot_leaves, with_leaf}
 use Rattle.synthetic_source.specs.Places.{RiseAfter, Rise, Place, later_place, place_among, found_if}
 use Rattle.synthetic_source.specs.declared.gathering.Slot.{Slot}
 use Rattle.synthetic_source.proofs.Added.{found_within}
-use Rattle.synthetic_source.proofs.Grouping.{same_bytes, other_bytes, not_same}
 
 place_cmp : Ordering → Place → Place
 place_cmp o p = match_ordering o (record { at = 0; found = false }) (record { at = 0; found = true }) (later_place p)
@@ -29,7 +29,7 @@ leaf_before p q [] d lss before rise = refl
 leaf_before p q (f ∷ fs) d [] before rise = refl
 leaf_before p q (f ∷ fs) d (ls ∷ lss) before rise =
     let on = before_chain p q f.path before rise.0 in
-    ap₂ (λ b xs. add_if b ls d ∷ xs) (other_bytes p f.path (not_same p f.path on)) (leaf_before p f.path fs d lss on rise.1)
+    ap₂ (λ b xs. add_if b ls d ∷ xs) (other_bytes p f.path (apart p f.path on)) (leaf_before p f.path fs d lss on rise.1)
 
 tail_rise : (q : List ℕ) (fs : List Field) → RiseAfter q (paths_of fs) → Rise (paths_of fs)
 tail_rise q [] rise = tt
@@ -51,9 +51,9 @@ leaf_nowhere p d (f ∷ fs) (ls ∷ lss) rise none = go (slice_cmp nat_cmp p f.p
     go : (o : Ordering) → slice_cmp nat_cmp p f.path ≡ o
         → found_if (match_ordering o (record { at = 0; found = false }) (record { at = 0; found = true }) (later_place (place_among p (paths_of fs)))).found (match_ordering o (record { at = 0; found = false }) (record { at = 0; found = true }) (later_place (place_among p (paths_of fs)))).at ≡ None
         → (place_of p fs ≡ None → with_leaf fs p d lss ≡ lss) → add_if (bytes_eq p f.path) ls d ∷ with_leaf fs p d lss ≡ ls ∷ lss
-    go Less is none rest = ap₂ (λ b xs. add_if b ls d ∷ xs) (other_bytes p f.path (not_same p f.path is)) (leaf_before p f.path fs d lss is rise)
+    go Less is none rest = ap₂ (λ b xs. add_if b ls d ∷ xs) (other_bytes p f.path (apart p f.path is)) (leaf_before p f.path fs d lss is rise)
     go Equal is none rest = cc
-    go Greater is none rest = ap₂ (λ b xs. add_if b ls d ∷ xs) (other_bytes p f.path (λ same. not_same f.path p (before_of_after p f.path is) (sym same))) (rest (later (place_among p (paths_of fs)) none))
+    go Greater is none rest = ap₂ (λ b xs. add_if b ls d ∷ xs) (other_bytes p f.path (λ same. apart f.path p (before_of_after p f.path is) (sym same))) (rest (later (place_among p (paths_of fs)) none))
 
 -- the leaf of a field's path goes to that field
 pub leaf_there : (p : List ℕ) (d : Data) (fs : List Field) (lss : List (List Data)) (at : ℕ) → Rise (paths_of fs) → place_of p fs ≡ Some at → length lss ≡ length fs → with_leaf fs p d lss ≡ set lss at (get_or lss at [] ++ d ∷ [])
@@ -82,10 +82,10 @@ leaf_there p d (f ∷ fs) (ls ∷ lss) at rise some long = go (slice_cmp nat_cmp
         leaf_at_first : (q : List ℕ) (fs : List Field) → RiseAfter q (paths_of fs) → (lss : List (List Data)) → with_leaf fs q d lss ≡ lss
         leaf_at_first q [] rise lss = refl
         leaf_at_first q (g ∷ gs) rise [] = refl
-        leaf_at_first q (g ∷ gs) rise (ls ∷ lss) = ap₂ (λ b xs. add_if b ls d ∷ xs) (other_bytes q g.path (not_same q g.path rise.0)) (leaf_before q g.path gs d lss rise.0 rise.1)
+        leaf_at_first q (g ∷ gs) rise (ls ∷ lss) = ap₂ (λ b xs. add_if b ls d ∷ xs) (other_bytes q g.path (apart q g.path rise.0)) (leaf_before q g.path gs d lss rise.0 rise.1)
     go Greater is at some rest =
         let at_later = earlier (place_among p (paths_of fs)) at some in
-        ap₂ (λ b xs. add_if b ls d ∷ xs) (other_bytes p f.path (λ same. not_same f.path p (before_of_after p f.path is) (sym same))) (rest at_later.0 at_later.2)
+        ap₂ (λ b xs. add_if b ls d ∷ xs) (other_bytes p f.path (λ same. apart f.path p (before_of_after p f.path is) (sym same))) (rest at_later.0 at_later.2)
         ∙ ap (λ n. set (ls ∷ lss) n (get_or (ls ∷ lss) n [] ++ d ∷ [])) (sym at_later.1)
 
 placed_last : (p : List ℕ) (es : List (List ℕ × Data)) (q : List ℕ) (d : Data) → placed_at p (es ++ (q, d) ∷ []) ≡ add_if (bytes_eq q p) (placed_at p es) d

@@ -11,6 +11,7 @@ use Rattle.std.proofs.lemmas.Map.Lookups.{exact_bytes}
 use Rattle.row_cells.specs.declared.schemas.Field.{Field}
 use Rattle.row_cells.specs.Dimensions.{IsBefore}
 use Rattle.row_cells.specs.JoinLaws.{before_chain, before_of_after}
+use Rattle.row_cells.specs.WidenLaws.{apart, other_bytes, same_bytes}
 use Rattle.ts_mapping.specs.Paths.{is_among, is_below}
 use Rattle.synthetic_source.specs.Faults.{near}
 use Rattle.synthetic_source.specs.Gathered.{paths_of}
@@ -18,7 +19,6 @@ use Rattle.synthetic_source.specs.Places.{RiseAfter, Rise, later_place, place_am
 use Rattle.synthetic_source.specs.Sides.{side, side_by}
 use Rattle.std.proofs.lemmas.Bool.{cases_eq}
 use Rattle.synthetic_source.proofs.Search.{same_element, at_before}
-use Rattle.synthetic_source.proofs.Grouping.{not_same, other_bytes, same_bytes}
 
 -- ---- sides
 
@@ -191,7 +191,7 @@ any_paths f (g ∷ gs) = ap (λ b. f g.path || b) (any_paths f gs)
 
 not_among : (p : List ℕ) (ps : List (List ℕ)) → RiseAfter p ps → is_among p ps ≡ false
 not_among p [] rise = refl
-not_among p (q ∷ qs) rise = ap (λ b. b || is_among p qs) (other_bytes p q (not_same p q rise.0)) ∙ not_among p qs (weaker q qs rise.0 rise.1)
+not_among p (q ∷ qs) rise = ap (λ b. b || is_among p qs) (other_bytes p q (apart p q rise.0)) ∙ not_among p qs (weaker q qs rise.0 rise.1)
   where
     weaker : (q : List ℕ) (qs : List (List ℕ)) → IsBefore p q → RiseAfter q qs → RiseAfter p qs
     weaker q [] before rise = tt
@@ -213,7 +213,7 @@ is_there p (q ∷ qs) rise = go (slice_cmp nat_cmp p q) refl (is_there p qs (tai
         → is_some (found_if (match_ordering o (record { at = 0; found = false }) (record { at = 0; found = true }) (later_place (place_among p qs))).found (match_ordering o (record { at = 0; found = false }) (record { at = 0; found = true }) (later_place (place_among p qs))).at) ≡ (bytes_eq p q || is_among p qs)
     go Less is rest = sym (not_among p (q ∷ qs) (is, rise))
     go Equal is rest = sym (ap (λ b. b || is_among p qs) (same_bytes p q (exact_bytes p q is)))
-    go Greater is rest = same_there (place_among p qs).found (suc (place_among p qs).at) (place_among p qs).at ∙ (rest ∙ sym (ap (λ b. b || is_among p qs) (other_bytes p q (λ same. not_same q p (before_of_after p q is) (sym same)))))
+    go Greater is rest = same_there (place_among p qs).found (suc (place_among p qs).at) (place_among p qs).at ∙ (rest ∙ sym (ap (λ b. b || is_among p qs) (other_bytes p q (λ same. apart q p (before_of_after p q is) (sym same)))))
 
 -- ---- a search among fields
 

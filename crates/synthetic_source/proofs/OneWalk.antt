@@ -33,7 +33,7 @@ use Rattle.synthetic_source.proofs.Search.{fields_rise}
 use Rattle.json_walk.specs.WalkLaws.{listed_are_leaves}
 use Rattle.row_cells.specs.declared.schemas.Schema.{Schema}
 use Rattle.row_cells.specs.Fitting.{FieldsAscend}
-use Rattle.synthetic_source.proofs.Grouping.{same_bytes, other_bytes, not_same}
+use Rattle.row_cells.specs.WidenLaws.{apart, other_bytes, same_bytes}
 use Rattle.synthetic_source.proofs.Leaves.{fields_have_all, leaf_nowhere}
 
 pub after-append : (strict : Bool) (fields : List Field) (h : Held) (es gs : List (List ℕ × Data)) → after strict fields h (es ++ gs) ≡ after strict fields (after strict fields h es) gs
@@ -63,7 +63,7 @@ slots-all strict fields es least rise = slots-after strict fields es (record { s
 stop_later : (p q : List ℕ) (fs : List Field) → IsBefore p q → RiseAfter q (paths_of fs) → list_any (λ s. bytes_eq s p) (stops_of fs) ≡ false
 stop_later p q [] before rise = refl
 stop_later p q (f ∷ fs) before rise =
-    let on = before_chain p q f.path before rise.0 in go (is_aggregate f.kind) (other_bytes f.path p (λ same. not_same p f.path on (sym same))) (stop_later p f.path fs on rise.1)
+    let on = before_chain p q f.path before rise.0 in go (is_aggregate f.kind) (other_bytes f.path p (λ same. apart p f.path on (sym same))) (stop_later p f.path fs on rise.1)
   where
     go : (v : Bool) → bytes_eq f.path p ≡ false → list_any (λ s. bytes_eq s p) (stops_of fs) ≡ false → list_any (λ s. bytes_eq s p) (cond v (f.path ∷ stops_of fs) (stops_of fs)) ≡ false
     go true differ none = ap (λ b. b || list_any (λ s. bytes_eq s p) (stops_of fs)) differ ∙ none
@@ -94,7 +94,7 @@ stops_at p (f ∷ fs) rise = go (bytes_eq p f.path) refl (stops_at p fs (tail_ri
       where
         later_than : (q : List ℕ) (gs : List Field) → RiseAfter q (paths_of gs) → list_any (λ s. bytes_eq s q) (stops_of gs) ≡ false
         later_than q [] after = refl
-        later_than q (g ∷ gs) after = by (is_aggregate g.kind) (other_bytes g.path q (λ e. not_same q g.path after.0 (sym e))) (stop_later q g.path gs after.0 after.1)
+        later_than q (g ∷ gs) after = by (is_aggregate g.kind) (other_bytes g.path q (λ e. apart q g.path after.0 (sym e))) (stop_later q g.path gs after.0 after.1)
           where
             by : (v : Bool) → bytes_eq g.path q ≡ false → list_any (λ s. bytes_eq s q) (stops_of gs) ≡ false → list_any (λ s. bytes_eq s q) (cond v (g.path ∷ stops_of gs) (stops_of gs)) ≡ false
             by true differ none = ap (λ b. b || list_any (λ s. bytes_eq s q) (stops_of gs)) differ ∙ none
@@ -127,7 +127,7 @@ field_of_place p (f ∷ fs) at d rise some = go (slice_cmp nat_cmp p f.path) ref
         let first : 0 ≡ at = cc in
         ap (λ b. cond b (Some f) (field_at p fs)) (same_bytes p f.path (exact_bytes p f.path is)) ∙ ap (λ n. Some (get_or (f ∷ fs) n d)) first
     go Greater is some rest =
-        ap (λ b. cond b (Some f) (field_at p fs)) (other_bytes p f.path (λ same. not_same f.path p (before_of_after p f.path is) (sym same))) ∙ later (place_among p (paths_of fs)) at some rest
+        ap (λ b. cond b (Some f) (field_at p fs)) (other_bytes p f.path (λ same. apart f.path p (before_of_after p f.path is) (sym same))) ∙ later (place_among p (paths_of fs)) at some rest
 
 pub stop_some : (p : List ℕ) (fs : List Field) (at : ℕ) (d : Field) → Rise (paths_of fs) → place_of p fs ≡ Some at → list_any (λ s. bytes_eq s p) (stops_of fs) ≡ is_aggregate (get_or fs at d).kind
 stop_some p fs at d rise some = stops_at p fs rise ∙ ap stop_by (field_of_place p fs at d rise some)

@@ -11,8 +11,9 @@ use Rattle.json_walk.specs.Leaves.{whole_object, given, at, at_members}
 use Rattle.synthetic_source.specs.Levels.{Shown, first_name, names_after, names_of, value_at, with_rest, under, members_by, value_or, level, longest}
 use Rattle.synthetic_source.specs.Places.{RiseAfter, Rise}
 use Rattle.synthetic_source.proofs.Fuel.{longest_under}
-use Rattle.synthetic_source.proofs.Grouping.{ArePlain, Lacks, lacks_inserted, lacks_later, names_plain, names_rise, same_bytes, other_bytes}
+use Rattle.synthetic_source.proofs.Grouping.{ArePlain, Lacks, lacks_inserted, lacks_later, names_plain, names_rise}
 use Rattle.synthetic_source.proofs.Names.{Parted, whole, parted, parted_path, first_behind, same_nat, nats_same}
+use Rattle.row_cells.specs.WidenLaws.{other_bytes, same_bytes}
 
 -- a path that goes on behind a name is the name, a dot and what is left
 goes_on : (s p r : List ℕ) → behind_name s p ≡ Some (text r) → p ≡ s ++ 46 ∷ r

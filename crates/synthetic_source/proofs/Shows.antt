@@ -21,12 +21,12 @@ use Rattle.row_cells.specs.Dimensions.{IsBefore}
 use Rattle.row_cells.specs.Fitting.{CellFits, CellsFit, FieldsAscendAfter}
 use Rattle.row_cells.specs.JoinLaws.{before_chain}
 use Rattle.row_cells.specs.Joining.{IsIn}
+use Rattle.row_cells.specs.WidenLaws.{apart as not_same, other_bytes, same_bytes}
 use Rattle.ts_mapping.specs.Paths.{is_below}
 use Rattle.ts_mapping.specs.Roles.{is_aggregate}
 use Rattle.synthetic_source.specs.Faults.{field_at, stops_of}
 use Rattle.synthetic_source.specs.Levels.{Shown, value_at, with_rest, under}
 use Rattle.synthetic_source.specs.Normal.{cell_data, list_data, parts_data, scalar_data, shown_as, shown_of, whole_data, shown_cell}
-use Rattle.synthetic_source.proofs.Grouping.{not_same, other_bytes, same_bytes}
 use Rattle.synthetic_source.proofs.Names.{same_nat, nats_same}
 use Rattle.synthetic_source.proofs.Reaching.{IsClosed, ends, items_list}
 

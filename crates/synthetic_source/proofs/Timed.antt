@@ -9,6 +9,7 @@ use Rattle.row_cells.specs.declared.schemas.Role.{Role}
 use Rattle.row_cells.specs.declared.schemas.Role.TheVariants.{Time, Dimension, Gauge, Counter, Label}
 use Rattle.row_cells.specs.declared.schemas.Field.{Field}
 use Rattle.row_cells.specs.declared.schemas.Schema.{Schema}
+use Rattle.row_cells.specs.WidenLaws.{other_bytes}
 use Rattle.serde_json.specs.Data.{Data, null, boolean, number, string, array, object, Items, no_items, item, Members, no_members, member}
 use Rattle.json_walk.specs.Leaves.{AreLeaves, at, at_items, at_members, given, leaves_of, placed_at, whole_object}
 use Rattle.json_walk.specs.Listed.{listed}
@@ -22,7 +23,6 @@ use Rattle.ts_mapping.specs.RoleLaws.{date_is}
 use Rattle.synthetic_source.specs.Faults.{mapped_fault, number_read, stops_of, time_in, time_of}
 use Rattle.synthetic_source.specs.Gathered.{AreTimed, IsTimed, by_field}
 use Rattle.synthetic_source.specs.declared.errors.DocKind.TheVariants.{WrongType}
-use Rattle.synthetic_source.proofs.Grouping.{other_bytes}
 
 -- ---- a path without a dot is a member of the document itself, whatever is taken whole elsewhere
 

@@ -1,9 +1,9 @@
 -- The index that an item is taken by may take its row.
-use Rattle.std.specs.Prelude.{◌≡◌, ℕ, ℤ, pos, ◌≤◌, ◌≤ℤ◌, ◌<ℤ◌, int_le, int_lt, T, Bool, true, false, nat_le, List, [], ◌∷◌, length, Option, Some, None, Result, Ok, Err, option_and_then, unwrap_or, if◌then◌else◌}
+use Rattle.std.specs.Prelude.{◌≡◌, ℕ, ℤ, pos, ◌≤◌, ◌≤ℤ◌, ◌<ℤ◌, int_le, int_lt, T, Bool, true, false, List, [], ◌∷◌, length, Option, Some, None, Result, Ok, Err, option_and_then, unwrap_or, if◌then◌else◌}
 use Rattle.std.specs.Int.Signed.{lt_z_yes, le_z_yes}
 use Rattle.std.proofs.Common.{refl, ap, ◌∙◌, sym, subst, arith}
 use Rattle.std.proofs.lemmas.Int.{ints}
-use Rattle.std.proofs.lemmas.Bool.{and_parts, both_ways, leb-true}
+use Rattle.std.proofs.lemmas.Bool.{and_parts, both_ways}
 use Rattle.bulk_json.specs.declared.action.Action.{Action}
 use Rattle.bulk_json.specs.declared.action.Action.TheVariants.{Create, Index, Update, Delete}
 use Rattle.bulk_json.specs.declared.items.Item.{Item}
@@ -15,17 +15,15 @@ use Rattle.rest_request.specs.Body.{tree_if_object, object_of}
 use Rattle.row_cells.specs.Each.{Each}
 use Rattle.row_cells.specs.Fitting.{CellsFit}
 use Rattle.row_cells.specs.KeyedRows.{IsShortList, IsRowOf}
-use Rattle.row_cells.specs.Limits.{longest_key, longest_list}
-use Rattle.row_cells.specs.Mapped.{HaveKey, is_routed, series_bytes}
+use Rattle.row_cells.specs.Limits.{longest_list}
 use Rattle.row_cells.specs.RowLists.{has_place}
 use Rattle.row_cells.specs.declared.rows.Cell.{Cell}
 use Rattle.row_cells.specs.declared.rows.Row.{Row}
 use Rattle.row_cells.specs.declared.schemas.Schema.{Schema}
 use Rattle.serde_json.specs.Data.{Data}
 use Rattle.series_id.specs.Ids.{id_of}
+use Rattle.series_id.specs.KeyFaultLaws.{keyed_told}
 use Rattle.series_id.specs.Keys.{keyed}
-use Rattle.series_id.specs.declared.keys.KeyError.{KeyError}
-use Rattle.series_id.specs.declared.keys.KeyError.TheVariants.{NoRouting, KeyTooLong}
 use Rattle.stream_catalog.specs.Laws.{FoundIsHeld, NamesKeep, TakesRow, PutsKeepSound}
 use Rattle.stream_catalog.specs.Lists.{with_found, stream_named, index_named}
 use Rattle.stream_catalog.specs.Plain.{PlainIndex, PlainStream, PlainCatalog, facts_of}
@@ -59,27 +57,6 @@ from_lt a b is = lt_z_yes {a = a} {b = b} (subst T (sym is) tt)
 instant_between : (start end t : ℤ) → IsInstant start → IsInstant end → start ≤ℤ t → t <ℤ end → IsInstant t
 instant_between start end t begins ends above below = (omega (arith, ints, begins.0, above), omega (arith, ints, ends.1, below))
 
--- ---- keys
-
-key_err : {e : KeyError} {k : List ℕ} → Err e ≡ Ok k → ⊥
-key_err e = cc
-
-abbrev keyed_as : List ℕ → Result (List ℕ) KeyError
-keyed_as k = Ok k
-
-ok_key : {k l : List ℕ} → keyed_as k ≡ keyed_as l → k ≡ l
-ok_key e = cc
-
-keyed_is : (schema : Schema) (cells : List Cell) (k : List ℕ) → keyed schema cells ≡ Ok k → HaveKey schema cells × (k ≡ series_bytes schema cells)
-keyed_is schema cells k is = by_tests (is_routed schema cells) (nat_le (length (series_bytes schema cells)) longest_key) refl refl is
-  where
-    by_tests : (a b : Bool) → is_routed schema cells ≡ a → nat_le (length (series_bytes schema cells)) longest_key ≡ b
-        → (if a then (if b then Ok (series_bytes schema cells) else Err (KeyTooLong (length (series_bytes schema cells)))) else Err NoRouting) ≡ Ok k
-        → HaveKey schema cells × (k ≡ series_bytes schema cells)
-    by_tests true true routed short is = (record { routed = routed; short = leb-true (length (series_bytes schema cells)) longest_key short }, sym (ok_key is))
-    by_tests true false routed short is = absurd (key_err is)
-    by_tests false b routed short is = absurd (key_err is)
-
 -- ---- what is held of an index that is there
 
 raw_schema : (interval : Option Interval) (blocked : Bool) (schema : Schema) → IsKind interval blocked schema → blocked ≡ false → schema.folded ≡ false
@@ -109,7 +86,7 @@ module _ (held_there : FoundIsHeld) (fit : CellsOfDocumentsFit) (c : PlainCatalo
       let schema = i.facts.mapping.schema in
       let held = held_there c m i sound found in
       let raw = raw_schema i.facts.interval i.facts.blocked schema held.kind takes in
-      let both = keyed_is schema cells key ((same_with_causes key_cause (keyed schema cells) (keys_caused schema cells)).value_back key made) in
+      let both = keyed_told schema cells key ((same_with_causes key_cause (keyed schema cells) (keys_caused schema cells)).value_back key made) in
       let window = and_parts (int_le i.facts.start time) (int_lt time i.facts.end) within in
       place_takes m i (record { key = key; time = time; count = 1; cells = cells }) found takes within
       (record {
