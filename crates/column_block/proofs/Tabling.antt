@@ -5,10 +5,9 @@ use Rattle.std.specs.Cmp.Lexicographic.{slice_cmp}
 use Rattle.std.specs.Int.{w64, to_be_bytes, from_be_bytes}
 use Rattle.std.specs.List.{flat_map, AllByRecursion}
 use Rattle.std.specs.List.Sorted.{IsStrictlySortedBy}
-use Rattle.std.specs.Ordering.{nat_cmp, is_eq, ordering_reverse}
+use Rattle.std.specs.Ordering.{nat_cmp, is_eq}
 use Rattle.std.specs.Str.{bytes_eq}
 use Rattle.std.proofs.lemmas.Bool.{false≢true, cases_lt}
-use Rattle.std.proofs.lemmas.Cmp.{nat_list_cmp_total}
 use Rattle.std.proofs.lemmas.List.{append_assoc, append-nil, length-append, take_more, take_all, drop_all, drop_more, length-take, get_or_default, take-append-drop}
 use Rattle.std.proofs.lemmas.Map.Text.{is_eq-slice_cmp}
 use Rattle.std.proofs.lemmas.Nat.{from_be_bytes-to_be_bytes_8, be_bytes_8}
@@ -17,7 +16,7 @@ use Rattle.row_cells.specs.Each.{Each}
 use Rattle.row_cells.specs.Dimensions.{IsBefore}
 use Rattle.column_block.specs.Rules.{IsText, TextsAscend, TextsAscendAfter}
 use Rattle.row_cells.specs.Dimensions.{text_bytes}
-use Rattle.row_cells.specs.JoinLaws.{before_chain, not_before_itself}
+use Rattle.row_cells.specs.JoinLaws.{before_chain, before_of_after, not_before_itself}
 use Rattle.row_cells.specs.KeyLaws.{text_bytes_injective}
 use Rattle.row_cells.specs.WidenLaws.{apart, other_bytes}
 use Rattle.column_block.specs.Spelling.{IsIn, ordinal, table_bytes}
@@ -30,9 +29,6 @@ use Rattle.packed_lists.specs.Laws.Fronts.{same-fronts}
 
 before-back : (a b : List ℕ) → IsBefore a b → IsBefore b a → ⊥
 before-back a b h k = not_before_itself a (before_chain a b a h k)
-
-pub before-greater : (a b : List ℕ) → slice_cmp nat_cmp a b ≡ Greater → IsBefore b a
-before-greater a b h = nat_list_cmp_total.antisymm b a ∙ ap ordering_reverse h
 
 pub equal-same : (a b : List ℕ) → slice_cmp nat_cmp a b ≡ Equal → a ≡ b
 equal-same a b h = (bytes_eq-Decides a b).0 (sym (is_eq-slice_cmp a b) ∙ ap is_eq h)
@@ -118,7 +114,7 @@ search-less us t x m h a b at e =
 pub search-more : (us : List (List ℕ)) (t x : List ℕ) (m : ℕ) → TextsAscend us → IsIn t us → m < length us → x ≡ get_or us m x → slice_cmp nat_cmp t x ≡ Greater → m < ordinal us t
 search-more us t x m h a b at e =
     let y : x ≡ get_or us m [] = at ∙ get_or_default us m x [] b in
-    omega (arith, ord-order us (get_or us m []) t h (in-at us m [] b) a (before-greater t (get_or us m []) (ap (slice_cmp nat_cmp t) (sym y) ∙ e)), ord-of us m h b)
+    omega (arith, ord-order us (get_or us m []) t h (in-at us m [] b) a (before_of_after t (get_or us m []) (ap (slice_cmp nat_cmp t) (sym y) ∙ e)), ord-of us m h b)
 
 pub search-same : (us : List (List ℕ)) (t x : List ℕ) (m : ℕ) → TextsAscend us → m < length us → x ≡ get_or us m x → slice_cmp nat_cmp t x ≡ Equal → ordinal us t ≡ m
 search-same us t x m h b at e = ap (ordinal us) (equal-same t x e ∙ at ∙ get_or_default us m x [] b) ∙ ord-of us m h b

@@ -96,6 +96,11 @@ pub enum ColumnError {
 }
 
 impl From<NoMemory> for ColumnError {
+    ghost use Rattle.std.specs.Prelude.{◌≡◌};
+    ghost use Rattle.column_block.specs.declared.kinds.ColumnError.TheVariants.{NoMemory as OutOfMemory};
+
+    ghost from_gives = { λ _ e. e ≡ OutOfMemory };
+
     fn from(_: NoMemory) -> ColumnError {
         ColumnError::NoMemory
     }

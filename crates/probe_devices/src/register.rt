@@ -5,12 +5,12 @@ ghost use Rattle.tsds_cli.specs.Examples.{HasRecord, last_play};
 ghost use Rattle.tsds_cli.specs.Play.{IsToldAs};
 ghost use Rattle.tsds_cli.specs.Script.{is_empty};
 
-use edge_face::{Bytes, Change, Keeper, NoMemory, Text};
+use edge_face::{Bytes, Change, KeepError, Keeper, NoMemory, Text};
 use reply_json::Out;
 use std::alloc::Global;
 use std::marker::Model;
 use std::mem;
-use tsds_cli::{ActError, Heard, Opening, Player, Reply};
+use tsds_cli::{Heard, Opening, Player, Reply};
 
 /// The body that was sent last.
 #[derive(Drop)]
@@ -38,11 +38,11 @@ impl Register {
 
 /// Writes the record of a body.
 #[tactic(auto, using(crate::proofs::RecordLemmas::told_record))]
-fn write<P: Keeper>(alloc: Global, body: &[u8], keeper: &mut P) -> Result<(), ActError>
+fn write<P: Keeper>(alloc: Global, body: &[u8], keeper: &mut P) -> Result<(), KeepError>
     requires open { IsSome (P.path keeper.old) }
     ensures written { OnOk result (IsToldAs (P.table keeper.old) (P.table keeper.new) (HasRecord body.now)) }
     ensures kept { OnErr result (P.table keeper.new ≡ P.table keeper.old) }
-    ensures caused { result ≡ Err ActError.Store → Rose (P.faults keeper.old) (P.faults keeper.new) }
+    ensures caused { result ≡ Err KeepError.Failed → Rose (P.faults keeper.old) (P.faults keeper.new) }
     ensures counted { P.faults keeper.old ≤ P.faults keeper.new }
     ensures path { P.path keeper.new ≡ P.path keeper.old }
 {
@@ -77,7 +77,7 @@ impl<P: Keeper> Player<P> for Register {
         alloc: Global,
         heard: &mut Heard,
         keeper: &mut P,
-    ) -> Result<Option<Reply>, ActError> {
+    ) -> Result<Option<Reply>, KeepError> {
         match heard.opening {
             Opening::Moment => Ok(None),
             Opening::Request => {

@@ -1,4 +1,5 @@
 //! Printed replies.
+use edge_face::Text;
 use probe_case::Trial;
 use reply_json::{Member, Out, error_reply};
 use serde_json::Value;
@@ -118,7 +119,11 @@ pub fn error(case: &Value, trial: &mut Trial) {
     let status = status_at(case, trial);
     let kind = type_of(trial.word_at(case, "type"));
     let reason = trial.text(case, "reason");
-    match error_reply(trial.alloc, status, kind, reason.as_str()) {
+    let reply = match Text::new(trial.alloc, reason.as_str()) {
+        Ok(reason) => error_reply(trial.alloc, status, kind, reason),
+        Err(error) => Err(error),
+    };
+    match reply {
         Ok(reply) => put_text(&reply, trial),
         Err(_) => trial.give_up(),
     }

@@ -114,18 +114,19 @@ impl Members {
     }
 }
 
-/// The reply to a refused request: `{"error":{"type":kind,"reason":reason},"status":status}`.
+/// The reply to a refused request: `{"error":{"type":kind,"reason":reason},"status":status}`. A reason that stands in the program
+/// (`Text::fixed`) takes no memory.
 pub fn error_reply(
     alloc: Global,
     status: u16,
     kind: &'static str,
-    reason: &str,
+    reason: Text,
 ) -> Result<Out, NoMemory>
-    ensures { IfOk result (λ out. out ≡ error_tree status kind.now reason.now) }
+    ensures { IfOk result (λ out. out ≡ error_tree status kind.now reason) }
 {
     let cause = Members::with_capacity(alloc, 2)?
         .with("type", Out::fixed(kind))?
-        .with("reason", Out::word(alloc, reason)?)?;
+        .with("reason", Out::Word(reason))?;
     let reply = Members::with_capacity(alloc, 2)?
         .with("error", cause.object())?
         .with("status", Out::Num(i128::from(status)))?;

@@ -19,8 +19,8 @@ use Rattle.tsds_cli.specs.Script.{Place, between, closed_of, events_of, closed_f
 use Rattle.tsds_cli.specs.Limits.{is_over, is_long_piece, fine_from, passed_from, IsShort}
 use Rattle.tsds_cli.specs.Ahead.{Ahead, ahead_in, behind, Passed, IsAtEnd, Stopped}
 use Rattle.edge_face.specs.Table.{Table}
-use Rattle.tsds_cli.specs.declared.errors.ActError.TheVariants as act_error
-use Rattle.tsds_cli.specs.declared.errors.ActError.{ActError}
+use Rattle.edge_face.specs.declared.keeper.KeepError.TheVariants as keep_error
+use Rattle.edge_face.specs.declared.keeper.KeepError.{KeepError}
 use Rattle.tsds_cli.specs.Play.{Play, Act, Standing, text_of, with_reply, replies, after_events, written_by, last_written, IsToldAs, IsTable, IsWrittenBy, IsBehind, IsPast, IsRefused}
 use Rattle.tsds_cli.specs.Ends.{EndsBy, Broke, IsPut, Reached, IsFront, AreFine, IsFine, IsNear, IsStepped, IsUnmade, IsCutBehind, PutFront, PutUnkept, PutPart, PutWhole}
 use Rattle.tsds_cli.proofs.PassLemmas.{passed-passed, preceded-preceded, preceded-nothing, short_piece}
@@ -166,7 +166,7 @@ module _ {S : Type 0} (play : Play S) where
   is-stepped : (start now next : Standing S) (es : List Event) (e : Event) → IsBehind play start now es → IsPast play now next e → IsStepped play start next es e
   is-stepped start now next es e b past = record { stepped = past.0 ∙ ap (λ s. (play.act s e).stepped) b.state; table = written-more start now next.table es e b past.1 }
 
-  is-unmade : (start now next : Standing S) (es : List Event) (e : Event) (error : ActError) → IsBehind play start now es → IsRefused play now next e error → IsUnmade play start next es e error
+  is-unmade : (start now next : Standing S) (es : List Event) (e : Event) (error : KeepError) → IsBehind play start now es → IsRefused play now next e error → IsUnmade play start next es e error
   is-unmade start now next es e error b refused = record {
     left = subst (λ s. play.left s e error next.state) b.state refused.0;
     table = subst (λ t. IsWrittenBy play start t es) (sym refused.1) b.table;
@@ -226,7 +226,7 @@ module _ {S : Type 0} (play : Play S) where
 
   -- no memory for an event that was read: nothing of it was put
   front-before : (start now next : Standing S) (reader reader' : Reading) (script left left' given0 given : Option (List ℕ)) (e : Event) → Reached play start now fresh reader script left given0 given → Passed between (e ∷ []) between reader reader' left left' → KnowsEnd reader'.ended left'
-      → IsShort e → IsRefused play now next e act_error.NoMemory ⊎ IsPast play now next e → PutFront play start next script left' given0 given
+      → IsShort e → IsRefused play now next e keep_error.NoMemory ⊎ IsPast play now next e → PutFront play start next script left' given0 given
   front-before start now next reader reader' script left left' given0 given e r p knows body near =
       let all = passed-passed r.done (e ∷ []) between between between fresh reader reader' script left left' r.passed p in
       let f = fronts (r.done ++ e ∷ []) between reader' script left' knows all in
@@ -243,8 +243,8 @@ module _ {S : Type 0} (play : Play S) where
         state = by f.0 (all.gone ++ reader'.pending) fine near;
       }
     where
-      by : (more : List Event) (taken : List ℕ) → IsFine (r.done ++ e ∷ []) taken script → IsRefused play now next e act_error.NoMemory ⊎ IsPast play now next e → IsNear play start next r.done (e ∷ more) taken script
-      by more taken fine (inl refused) = inr (inl (record { next = e; later = more; first = refl; body = body; fine = fine; is = inl (is-unmade start now next r.done e act_error.NoMemory r.state refused) }))
+      by : (more : List Event) (taken : List ℕ) → IsFine (r.done ++ e ∷ []) taken script → IsRefused play now next e keep_error.NoMemory ⊎ IsPast play now next e → IsNear play start next r.done (e ∷ more) taken script
+      by more taken fine (inl refused) = inr (inl (record { next = e; later = more; first = refl; body = body; fine = fine; is = inl (is-unmade start now next r.done e keep_error.NoMemory r.state refused) }))
       by more taken fine (inr past) = inr (inl (record { next = e; later = more; first = refl; body = body; fine = fine; is = inr (is-stepped start now next r.done e r.state past) }))
 
   -- no memory for the unit of an event: all of its reply was put
@@ -268,7 +268,7 @@ module _ {S : Type 0} (play : Play S) where
 
   -- the keeper of an event that was to write failed
   unkept-of : (start now next : Standing S) (reader reader' : Reading) (script left left' given0 given : Option (List ℕ)) (e : Event) → Reached play start now fresh reader script left given0 given → Passed between (e ∷ []) between reader reader' left left' → KnowsEnd reader'.ended left'
-      → IsShort e → IsRefused play now next e act_error.Store → (play.act now.state e).wrote ≡ true → PutUnkept play start next script left' given0 given
+      → IsShort e → IsRefused play now next e keep_error.Failed → (play.act now.state e).wrote ≡ true → PutUnkept play start next script left' given0 given
   unkept-of start now next reader reader' script left left' given0 given e r p knows body refused wrote =
       let all = passed-passed r.done (e ∷ []) between between between fresh reader reader' script left left' r.passed p in
       let f = fronts (r.done ++ e ∷ []) between reader' script left' knows all in
@@ -283,7 +283,7 @@ module _ {S : Type 0} (play : Play S) where
         bodies = bodies-more r.done e r.bodies body;
         wrote = sym (ap (λ s. (play.act s e).wrote) r.state.state) ∙ wrote;
         put = r.put;
-        state = is-unmade start now next r.done e act_error.Store r.state refused;
+        state = is-unmade start now next r.done e keep_error.Failed r.state refused;
       }
 
   -- a first part of an event's reply was put

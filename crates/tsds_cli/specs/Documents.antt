@@ -18,8 +18,8 @@ use Rattle.time_text.specs.Instant.{instant_of, in_range}
 use Rattle.tsds_cli.specs.declared.reply.Reply.{Reply}
 use Rattle.tsds_cli.specs.Replies.{reply_line}
 use Rattle.edge_face.specs.Table.{Table}
-use Rattle.tsds_cli.specs.declared.errors.ActError.{ActError}
-use Rattle.tsds_cli.specs.declared.errors.ActError.TheVariants as act_error
+use Rattle.edge_face.specs.declared.keeper.KeepError.{KeepError}
+use Rattle.edge_face.specs.declared.keeper.KeepError.TheVariants as keep_error
 use Rattle.tsds_cli.specs.declared.machine.Machine.{Machine}
 use Rattle.tsds_cli.specs.Play.{Act, Play, Standing}
 use Rattle.tsds_cli.specs.declared.documents.Document.{Document}
@@ -203,9 +203,9 @@ act_of machine event = record {
 }
 
 -- without memory for a step it stays as it was, and it never asks its keeper
-abbrev pub Stays : Machine → Event → ActError → Machine → Type 0
-Stays machine event act_error.NoMemory state = state ≡ machine
-Stays machine event act_error.Store state = ⊥
+abbrev pub Stays : Machine → Event → KeepError → Machine → Type 0
+Stays machine event keep_error.NoMemory state = state ≡ machine
+Stays machine event keep_error.Failed state = ⊥
 
 -- no table is its image
 abbrev pub NoImage : Machine → Table → Type 0

@@ -3,8 +3,8 @@ use Rattle.std.specs.Prelude.{◌≡◌, ℕ, ◌<◌, List, [], ◌∷◌, ◌+
 use Rattle.std.specs.List.{concat}
 use Rattle.edge_face.specs.Contents.{appended, preceded}
 use Rattle.edge_face.specs.Reading.{Reading}
-use Rattle.tsds_cli.specs.declared.errors.ActError.{ActError}
-use Rattle.tsds_cli.specs.declared.errors.ActError.TheVariants as act_error
+use Rattle.edge_face.specs.declared.keeper.KeepError.{KeepError}
+use Rattle.edge_face.specs.declared.keeper.KeepError.TheVariants as keep_error
 use Rattle.tsds_cli.specs.declared.errors.RunError.{RunError}
 use Rattle.tsds_cli.specs.declared.errors.RunError.TheVariants.{NoMemory, Store, Read, Write, TooLong}
 use Rattle.tsds_cli.specs.Ahead.{Passed}
@@ -24,13 +24,13 @@ pub record IsPut (reply : List ℕ) (before now : Option (List ℕ)) : Type 0 wh
 -- unit wasn't made
 abbrev pub BrokeForMemory : {S : Type 0} → Play S → Standing S → Standing S → Event → Option (List ℕ) → Option (List ℕ) → Type 0
 BrokeForMemory play before now e given0 given =
-    (IsRefused play before now e act_error.NoMemory × (given ≡ given0))
+    (IsRefused play before now e keep_error.NoMemory × (given ≡ given0))
     ⊎ (IsPast play before now e × ((given ≡ given0) ⊎ (given ≡ appended given0 (text_of (play.act before.state e).reply))))
 
 -- the same by its error: its keeper failed where the event was to write; or its reply was cut off
 abbrev pub Broke : {S : Type 0} → Play S → Standing S → Standing S → Event → RunError → Option (List ℕ) → Option (List ℕ) → Type 0
 Broke play before now e NoMemory given0 given = BrokeForMemory play before now e given0 given
-Broke play before now e Store given0 given = IsRefused play before now e act_error.Store × ((play.act before.state e).wrote ≡ true) × (given ≡ given0)
+Broke play before now e Store given0 given = IsRefused play before now e keep_error.Failed × ((play.act before.state e).wrote ≡ true) × (given ≡ given0)
 Broke play before now e Write given0 given = IsPast play before now e × IsPut (text_of (play.act before.state e).reply) given0 given
 Broke play before now e Read given0 given = ⊥
 Broke play before now e TooLong given0 given = ⊥
@@ -61,7 +61,7 @@ pub record IsStepped {S : Type 0} (play : Play S) (start now : Standing S) (done
   pub table : IsWrittenBy play start now.table (done ++ next ∷ [])
 
 -- or its step wasn't made: the state is one that this error may leave, and the table is the one behind the events before it
-pub record IsUnmade {S : Type 0} (play : Play S) (start now : Standing S) (done : List Event) (next : Event) (error : ActError) : Type 0 where
+pub record IsUnmade {S : Type 0} (play : Play S) (start now : Standing S) (done : List Event) (next : Event) (error : KeepError) : Type 0 where
   pub left : play.left (after_events play start.state done) next error now.state
   pub table : IsWrittenBy play start now.table done
 
@@ -72,7 +72,7 @@ pub record NextIsBroken {S : Type 0} (play : Play S) (start now : Standing S) (d
   pub first : more ≡ next ∷ later
   pub body : IsShort next
   pub fine : IsFine (done ++ next ∷ []) taken script
-  pub is : IsUnmade play start now done next act_error.NoMemory ⊎ IsStepped play start now done next
+  pub is : IsUnmade play start now done next keep_error.NoMemory ⊎ IsStepped play start now done next
 
 pub record LastIsStepped {S : Type 0} (play : Play S) (start now : Standing S) (done : List Event) : Type 0 where
   pub earlier : List Event
@@ -119,7 +119,7 @@ pub record PutUnkept {S : Type 0} (play : Play S) (start now : Standing S) (scri
   pub bodies : All IsShort (done ++ next ∷ [])
   pub wrote : (play.act (after_events play start.state done) next).wrote ≡ true
   pub put : PutAll play start.state given0 given done
-  pub state : IsUnmade play start now done next act_error.Store
+  pub state : IsUnmade play start now done next keep_error.Failed
 
 -- the same, and of the next reply a first part that isn't all of it
 pub record PutPart {S : Type 0} (play : Play S) (start now : Standing S) (script left given0 given : Option (List ℕ)) : Type 0 where

@@ -4,8 +4,6 @@ use Rattle.edge_face.specs.declared.keeper.KeepError.{KeepError}
 use Rattle.edge_face.specs.declared.keeper.KeepError.TheVariants as keep
 use Rattle.edge_face.specs.declared.reader.LineError.{LineError}
 use Rattle.edge_face.specs.declared.reader.LineError.TheVariants as line
-use Rattle.tsds_cli.specs.declared.errors.ActError.{ActError}
-use Rattle.tsds_cli.specs.declared.errors.ActError.TheVariants as act
 use Rattle.tsds_cli.specs.declared.errors.RunError.{RunError}
 use Rattle.tsds_cli.specs.declared.errors.RunError.TheVariants.{NoMemory, Store, Read, Write, TooLong}
 use Rattle.tsds_cli.specs.declared.status.TheConstants.{NO_MEMORY, READ_FAULT, KEEPER_FAULT, WRITE_FAULT, TOO_LONG}
@@ -15,13 +13,9 @@ run_error_of line.Read = Read
 run_error_of (line.TooLong bytes) = TooLong
 run_error_of line.NoMemory = NoMemory
 
-abbrev pub kept_error : KeepError → ActError
-kept_error keep.NoMemory = act.NoMemory
-kept_error keep.Failed = act.Store
-
-abbrev pub broken_by : ActError → RunError
-broken_by act.NoMemory = NoMemory
-broken_by act.Store = Store
+abbrev pub broken_by : KeepError → RunError
+broken_by keep.NoMemory = NoMemory
+broken_by keep.Failed = Store
 
 abbrev pub status_of : RunError → ℕ
 status_of NoMemory = NO_MEMORY

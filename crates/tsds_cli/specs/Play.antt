@@ -3,7 +3,7 @@ use Rattle.std.specs.Prelude.{◌≡◌, ℕ, List, [], ◌∷◌, Bool, Option,
 use Rattle.std.specs.List.{concat}
 use Rattle.edge_face.specs.Contents.{appended}
 use Rattle.edge_face.specs.Table.{Table}
-use Rattle.tsds_cli.specs.declared.errors.ActError.{ActError}
+use Rattle.edge_face.specs.declared.keeper.KeepError.{KeepError}
 use Rattle.tsds_cli.specs.Script.{Event}
 
 -- what it does with an event where nothing is wanting: the line that is written, if one is, the state right after the step, the one
@@ -17,7 +17,7 @@ pub record Act (S : Type 0) : Type 0 where
 -- what it does, which states a step that isn't made may leave, by its error, and which tables are the image of a state
 pub record Play (S : Type 0) : Type 1 where
   pub act : S → Event → Act S
-  pub left : S → Event → ActError → S → Type 0
+  pub left : S → Event → KeepError → S → Type 0
   pub image : S → Table → Type 0
 
 -- a state, and the table of its keeper, where the keeper tells it
@@ -82,5 +82,5 @@ pub record IsBehind {S : Type 0} (play : Play S) (start now : Standing S) (event
 abbrev pub IsPast : {S : Type 0} → Play S → Standing S → Standing S → Event → Type 0
 IsPast play before now event = (now.state ≡ (play.act before.state event).stepped) × IsTable play.image (written_by (play.act before.state event) None) before.table now.table
 
-abbrev pub IsRefused : {S : Type 0} → Play S → Standing S → Standing S → Event → ActError → Type 0
+abbrev pub IsRefused : {S : Type 0} → Play S → Standing S → Standing S → Event → KeepError → Type 0
 IsRefused play before now event error = play.left before.state event error now.state × (now.table ≡ before.table)

@@ -6,8 +6,8 @@ use Rattle.std.specs.Prelude.{All}
 use Rattle.std.proofs.lemmas.List.Elements.{All-head, All-tail, All-nil, All-cons, All-append}
 use Rattle.edge_face.specs.Contents.{appended}
 use Rattle.edge_face.specs.Table.{Table}
-use Rattle.tsds_cli.specs.declared.errors.ActError.{ActError}
-use Rattle.tsds_cli.specs.declared.errors.ActError.TheVariants as act_error
+use Rattle.edge_face.specs.declared.keeper.KeepError.{KeepError}
+use Rattle.edge_face.specs.declared.keeper.KeepError.TheVariants as keep_error
 use Rattle.tsds_cli.specs.declared.errors.RunError.{RunError}
 use Rattle.tsds_cli.specs.declared.errors.RunError.TheVariants.{NoMemory, Store, Read, Write, TooLong}
 use Rattle.tsds_cli.specs.Script.{Event, closed_of, events_of}
@@ -26,7 +26,7 @@ pub record ActAlike {S T : Type 0} (Goes : S → T → Type 0) (a : Act S) (b : 
 -- leave of the one goes with what it may leave of the other; and a table that is the image of the one state is that of the other
 pub record GoesWith {S T : Type 0} (p : Play S) (q : Play T) (Goes : S → T → Type 0) : Type 0 where
   pub acts : (s : S) (t : T) (e : Event) → Goes s t → IsShort e → ActAlike Goes (p.act s e) (q.act t e)
-  pub leaves : (s s' : S) (t : T) (e : Event) (error : ActError) → Goes s t → IsShort e → p.left s e error s' → (t' : T) × Goes s' t' × q.left t e error t'
+  pub leaves : (s s' : S) (t : T) (e : Event) (error : KeepError) → Goes s t → IsShort e → p.left s e error s' → (t' : T) × Goes s' t' × q.left t e error t'
   pub images : (s : S) (t : T) (table : Table) → Goes s t → p.image s table → q.image t table
 
 -- states go together where both are there, or neither is
@@ -116,7 +116,7 @@ module _ {S T : Type 0} (p : Play S) (q : Play T) (Goes : S → T → Type 0) (w
           record { stepped = refl; table = written-go (done ++ next ∷ []) (short-more done next short body) h.table },
         )
 
-    unmade-go : (done : List Event) (next : Event) (error : ActError) → All IsShort done → IsShort next → IsUnmade p start now done next error
+    unmade-go : (done : List Event) (next : Event) (error : KeepError) → All IsShort done → IsShort next → IsUnmade p start now done next error
         → GoesOn Goes now (λ n. IsUnmade q (stands t start.table) n done next error)
     unmade-go done next error short body h =
         let l = w.leaves (after_events p start.state done) now.state (after_events q t done) next error (after-go start.state t done goes short) body h.left in
@@ -129,9 +129,9 @@ module _ {S T : Type 0} (p : Play S) (q : Play T) (Goes : S → T → Type 0) (w
         (x.0, x.1, inl x.2)
     near-go done more taken script short (inr (inl n)) = next_is n.is
       where
-        next_is : IsUnmade p start now done n.next act_error.NoMemory ⊎ IsStepped p start now done n.next → GoesOn Goes now (λ n. IsNear q (stands t start.table) n done more taken script)
+        next_is : IsUnmade p start now done n.next keep_error.NoMemory ⊎ IsStepped p start now done n.next → GoesOn Goes now (λ n. IsNear q (stands t start.table) n done more taken script)
         next_is (inl h) =
-            let x = unmade-go done n.next act_error.NoMemory short n.body h in
+            let x = unmade-go done n.next keep_error.NoMemory short n.body h in
             (x.0, x.1, inr (inl (record { next = n.next; later = n.later; first = n.first; body = n.body; fine = n.fine; is = inl x.2 })))
         next_is (inr h) =
             let x = stepped-go done n.next short n.body h in
@@ -159,7 +159,7 @@ module _ {S T : Type 0} (p : Play S) (q : Play T) (Goes : S → T → Type 0) (w
         (x.0, x.1, record { taken = h.taken; taken_is = h.taken_is; short = h.short; fine = h.fine; bodies = h.bodies; put = put-go given0 given (closed_of h.taken) h.bodies h.put; state = x.2 })
     end-goes Store script left given0 given h =
         let bodies = short-front h.done h.next h.bodies in
-        let x = unmade-go h.done h.next act_error.Store bodies.0 bodies.1 h.state in
+        let x = unmade-go h.done h.next keep_error.Failed bodies.0 bodies.1 h.state in
         let a = w.acts (after_events p start.state h.done) (after_events q t h.done) h.next (after-go start.state t h.done goes bodies.0) bodies.1 in (
           x.0,
           x.1,

@@ -5,41 +5,6 @@ use edge_face::{KeepError, LineError, NoMemory};
 use std::alloc::AllocError;
 use thiserror::Error;
 
-/// Why an event's step isn't made.
-#[derive(Clone, Copy, Debug, PartialEq, Eq, Error)]
-pub enum ActError {
-    #[error("out of memory")]
-    NoMemory,
-    /// The keeper failed where the event was to write.
-    #[error("keeper fault")]
-    Store,
-}
-
-impl From<NoMemory> for ActError {
-    ghost use Rattle.std.specs.Prelude.{◌≡◌};
-    ghost use Rattle.tsds_cli.specs.declared.errors.ActError.TheVariants.{NoMemory as OutOfMemory};
-
-    ghost from_gives = { λ _ e. e ≡ OutOfMemory };
-
-    fn from(_: NoMemory) -> ActError {
-        ActError::NoMemory
-    }
-}
-
-impl From<KeepError> for ActError {
-    ghost use Rattle.std.specs.Prelude.{◌≡◌};
-    ghost use Rattle.tsds_cli.specs.Errors.{kept_error};
-
-    ghost from_gives = { λ e a. a ≡ kept_error e };
-
-    fn from(error: KeepError) -> ActError {
-        match error {
-            KeepError::NoMemory => ActError::NoMemory,
-            KeepError::Failed => ActError::Store,
-        }
-    }
-}
-
 /// Why a run ends before the end of its script.
 #[derive(Clone, Copy, Debug, PartialEq, Eq, Error)]
 pub enum RunError {
@@ -72,16 +37,16 @@ impl From<LineError> for RunError {
     }
 }
 
-impl From<ActError> for RunError {
+impl From<KeepError> for RunError {
     ghost use Rattle.std.specs.Prelude.{◌≡◌};
     ghost use Rattle.tsds_cli.specs.Errors.{broken_by};
 
     ghost from_gives = { λ e r. r ≡ broken_by e };
 
-    fn from(error: ActError) -> RunError {
+    fn from(error: KeepError) -> RunError {
         match error {
-            ActError::NoMemory => RunError::NoMemory,
-            ActError::Store => RunError::Store,
+            KeepError::NoMemory => RunError::NoMemory,
+            KeepError::Failed => RunError::Store,
         }
     }
 }

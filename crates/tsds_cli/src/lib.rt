@@ -11,7 +11,7 @@ mod runs;
 mod script;
 mod status;
 
-pub use errors::{ActError, RunError};
+pub use errors::RunError;
 pub use player::Player;
 pub use program::top;
 pub use reply::Reply;

@@ -11,11 +11,10 @@ ghost use Rattle.tsds_cli.specs.Documents.{count_reply, bulk_reply, bulk_tree as
 ghost use Rattle.tsds_cli.specs.Documents.{moment_in, unless_earlier as kept_unless_earlier, not_before, moment_reply, moved, empty_machine, script_play, rest_of};
 
 use crate::documents::{Documents, Outcome};
-use crate::errors::ActError;
 use crate::player::Player;
 use crate::reply::Reply;
 use crate::script::{Heard, Opening};
-use edge_face::{Keeper, NoMemory};
+use edge_face::{KeepError, Keeper, NoMemory, Text};
 use reply_json::{Members, Out, error_reply};
 use std::alloc::{AllocError, Global};
 use time_text::read_instant;
@@ -64,14 +63,19 @@ fn is_create(line: &[u8]) -> bool
 }
 
 /// The item of a refused source.
-fn refused_item(alloc: Global, status: u16, kind: &str, reason: &str) -> Result<Out, NoMemory>
+fn refused_item(
+    alloc: Global,
+    status: u16,
+    kind: &'static str,
+    reason: &'static str,
+) -> Result<Out, NoMemory>
     ensures { IfOk result (λ out. out ≡ refused_item_of status kind.now reason.now) }
 {
     let error = Members::new(alloc)
-        .with("type", Out::word(alloc, kind)?)?
-        .with("reason", Out::word(alloc, reason)?)?;
+        .with("type", Out::fixed(kind))?
+        .with("reason", Out::fixed(reason))?;
     let create = Members::new(alloc)
-        .with("_index", Out::word(alloc, "m")?)?
+        .with("_index", Out::fixed("m"))?
         .with("status", Out::Num(i128::from(status)))?
         .with("error", error.object())?;
     Ok(
@@ -86,8 +90,8 @@ fn created_item(alloc: Global) -> Result<Out, NoMemory>
     ensures { IfOk result (λ out. out ≡ item_of Outcome.Created) }
 {
     let create = Members::new(alloc)
-        .with("_index", Out::word(alloc, "m")?)?
-        .with("result", Out::word(alloc, "created")?)?
+        .with("_index", Out::fixed("m"))?
+        .with("result", Out::fixed("created"))?
         .with("status", Out::Num(201))?;
     Ok(
         Members::new(alloc)
@@ -107,7 +111,12 @@ fn item(alloc: Global, outcome: Outcome) -> Result<Out, NoMemory>
             "version_conflict_engine_exception",
             "version conflict, document already exists",
         ),
-        Outcome::NotBuilt => refused_item(alloc, 400, "not_built_exception", "not built"),
+        Outcome::NotBuilt => refused_item(
+            alloc,
+            400,
+            "not_built_exception",
+            Text::fixed("not built"),
+        ),
     }
 }
 
@@ -115,7 +124,7 @@ fn item(alloc: Global, outcome: Outcome) -> Result<Out, NoMemory>
 fn not_built_reply(alloc: Global) -> Result<Reply, NoMemory>
     ensures { IfOk result (λ r. r ≡ not_built) }
 {
-    let tree = error_reply(alloc, 400, "not_built_exception", "not built")?;
+    let tree = error_reply(alloc, 400, "not_built_exception", Text::fixed("not built"))?;
     Ok(Reply { status: 400, tree })
 }
 
@@ -315,7 +324,12 @@ fn unless_earlier(now: i64, moment: i64) -> Option<i64>
 fn bad_moment_reply(alloc: Global) -> Result<Reply, NoMemory>
     ensures { IfOk result (λ r. r ≡ bad_moment) }
 {
-    let tree = error_reply(alloc, 400, "illegal_argument_exception", "bad moment")?;
+    let tree = error_reply(
+        alloc,
+        400,
+        "illegal_argument_exception",
+        Text::fixed("bad moment"),
+    )?;
     Ok(Reply { status: 400, tree })
 }
 
@@ -371,7 +385,7 @@ impl<P: Keeper> Player<P> for Machine {
         alloc: Global,
         heard: &mut Heard,
         _keeper: &mut P,
-    ) -> Result<Option<Reply>, ActError> {
+    ) -> Result<Option<Reply>, KeepError> {
         let reply = step(alloc, self, heard)?;
         Ok(reply)
     }

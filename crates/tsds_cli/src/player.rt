@@ -9,10 +9,9 @@ ghost use Rattle.tsds_cli.specs.Play.{Play, IsTable, written_by};
 ghost use Rattle.tsds_cli.specs.Replies.{reply_line};
 ghost use Rattle.tsds_cli.specs.declared.script.Opening.{Opening as opening_type};
 
-use crate::errors::ActError;
 use crate::reply::Reply;
 use crate::script::{Heard, Opening};
-use edge_face::{Keeper, NoMemory};
+use edge_face::{KeepError, Keeper, NoMemory};
 use std::alloc::Global;
 
 /// A machine that a script is run on, beside the keeper of its records.
@@ -32,7 +31,7 @@ pub trait Player<P: Keeper> {
         alloc: Global,
         heard: &mut Heard,
         keeper: &mut P,
-    ) -> Result<Option<Reply>, ActError>
+    ) -> Result<Option<Reply>, KeepError>
         requires suited { suits self.old (P.path keeper.old) (P.table keeper.old) }
         requires short { IsShort (event_in heard.old) }
         ensures reply { IfOk result (λ r. option_map reply_line r ≡ (play.act self.old (event_in heard.old)).reply) }
@@ -42,8 +41,8 @@ pub trait Player<P: Keeper> {
         ensures suited { OnOk result (suits self.new (P.path keeper.new) (P.table keeper.new)) }
         ensures left { IfErr result (λ e. play.left self.old (event_in heard.old) e self.new) }
         ensures kept { OnErr result (P.table keeper.new ≡ P.table keeper.old) }
-        ensures wrote { result ≡ Err ActError.Store → (play.act self.old (event_in heard.old)).wrote ≡ true }
-        ensures caused { result ≡ Err ActError.Store → Rose (P.faults keeper.old) (P.faults keeper.new) }
+        ensures wrote { result ≡ Err KeepError.Failed → (play.act self.old (event_in heard.old)).wrote ≡ true }
+        ensures caused { result ≡ Err KeepError.Failed → Rose (P.faults keeper.old) (P.faults keeper.new) }
         ensures counted { P.faults keeper.old ≤ P.faults keeper.new }
         ensures path { P.path keeper.new ≡ P.path keeper.old };
 
