@@ -1,13 +1,12 @@
 -- Any number of segments merged one after the other.
-use Rattle.std.specs.Prelude.{◌≡◌, ◌+◌, ◌≤◌, ◌++◌, List, [], ◌∷◌, map}
+use Rattle.std.specs.Prelude.{◌≡◌, ◌+◌, ◌≤◌, ◌++◌, List, ◌∷◌, map}
 use Rattle.std.specs.List.{flat_map}
 use Rattle.std.specs.declared.cmp.Ordering.TheVariants.{Equal}
-use Rattle.std.proofs.Common.{refl, ap, sym, subst, ◌∙◌, arith, append_assoc}
-use Rattle.std.proofs.lemmas.List.{append-nil}
+use Rattle.std.proofs.Common.{ap, sym, subst, ◌∙◌, arith, append_assoc}
 use Rattle.row_cells.specs.declared.schemas.Schema.{Schema}
 use Rattle.row_cells.specs.declared.rows.Row.{Row}
 use Rattle.row_cells.specs.Each.{Each}
-use Rattle.row_cells.specs.EachLaws.{Each-all, Each-both}
+use Rattle.row_cells.specs.EachLaws.{Each-both}
 use Rattle.row_cells.specs.Limits.{most_documents}
 use Rattle.row_cells.specs.OrderLaws.{documents-in_row_order, in_row_order-ascends, in_row_order-each, in_row_order-same}
 use Rattle.row_cells.specs.PlaceLaws.{documents-append, each_append, in_row_order-append_left}

@@ -31,7 +31,7 @@ use Rattle.row_cells.specs.KeyedRows.{IsRowOf}
 use Rattle.index_segment.specs.Spelling.{counts_of, times_of}
 use Rattle.index_segment.proofs.HeldRows.{row_back}
 use Rattle.index_segment.proofs.Restored.{behind}
-use Rattle.index_segment.proofs.Runs.{bytes_eq_itself, bytes_eq_same}
+use Rattle.index_segment.proofs.Runs.{bytes_eq_itself}
 use Rattle.index_segment.proofs.Series.{in_order_at}
 use Rattle.index_segment.proofs.Lists.{both, by_nat}
 use Rattle.column_block.specs.EachLaws.{each-range}

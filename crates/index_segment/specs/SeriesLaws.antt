@@ -158,12 +158,8 @@ present_either None (Some q) = refl
 present_either (Some p) None = refl
 present_either (Some p) (Some q) = ap Some (parts_either p q)
 
-gauge_from : Option Parts → Gauge
-gauge_from p = record { 0 = p }
-
 gauges_either : (a b : Gauge) → merge_gauges a b ≡ merge_gauges b a
-unfolding gauge_from
-gauges_either a b = ap gauge_from (present_either a.0 b.0)
+gauges_either a b = let same = present_either a.0 b.0 in cc
 
 same_cell : (cells : List Cell) (place : ℕ) → cell_or_absent (slice_get cells place) ≡ slice_index_or cells place Absent
 same_cell [] place = refl
