@@ -111,12 +111,7 @@ fn item(alloc: Global, outcome: Outcome) -> Result<Out, NoMemory>
             "version_conflict_engine_exception",
             "version conflict, document already exists",
         ),
-        Outcome::NotBuilt => refused_item(
-            alloc,
-            400,
-            "not_built_exception",
-            Text::fixed("not built"),
-        ),
+        Outcome::NotBuilt => refused_item(alloc, 400, "not_built_exception", "not built"),
     }
 }
 
