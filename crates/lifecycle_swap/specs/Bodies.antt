@@ -12,8 +12,8 @@ use Rattle.lifecycle_swap.specs.declared.lifecycles.Round.{Round}
 use Rattle.lifecycle_swap.specs.Lifecycles.{is_lifecycle}
 
 -- the interval that a text is
-abbrev pub interval_of : Data → Option Interval
-interval_of d = option_and_then interval_in (as_str d)
+abbrev pub interval_read : Data → Option Interval
+interval_read d = option_and_then interval_in (as_str d)
 
 abbrev pub round_with : Option Interval → Option Interval → Option Round
 round_with (Some after) (Some by) = Some (record { after = after; by = by })
@@ -23,7 +23,7 @@ round_with after by = None
 abbrev pub round_of : Data → Option Round
 round_of d =
     if has_names (codes "after" ∷ codes "fixed_interval" ∷ []) d
-    then round_with (option_and_then interval_of (get (codes "after") d)) (option_and_then interval_of (get (codes "fixed_interval") d)) else None
+    then round_with (option_and_then interval_read (get (codes "after") d)) (option_and_then interval_read (get (codes "fixed_interval") d)) else None
 
 abbrev pub with_round : Option Round → Option (List Round) → Option (List Round)
 with_round (Some r) (Some rs) = Some (r ∷ rs)
@@ -45,7 +45,7 @@ rounds_of (object ms) = None
 -- without a retention nothing is deleted
 abbrev pub retention_in : Option Data → Option (Option Interval)
 retention_in None = Some None
-retention_in (Some d) = option_map Some (interval_of d)
+retention_in (Some d) = option_map Some (interval_read d)
 
 -- without rounds nothing is folded
 abbrev pub rounds_if_any : Option Data → Option (List Round)

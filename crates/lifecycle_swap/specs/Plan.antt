@@ -36,13 +36,13 @@ round_at [] age = None
 round_at (r ∷ rs) age = option_or (round_at rs age) (if is_aged r.after age then Some r else None)
 
 -- a round folds a member that isn't being folded, and that may be folded by its interval
-abbrev pub start_of : IndexFacts → Option Round → Option Step
-start_of f None = None
-start_of f (Some r) = if_so (not f.busy && is_none (interval_fault f.interval r.by)) (Start f.index r.by)
+abbrev pub start_step : IndexFacts → Option Round → Option Step
+start_step f None = None
+start_step f (Some r) = if_so (not f.busy && is_none (interval_fault f.interval r.by)) (Start f.index r.by)
 
 -- what a member's age asks for: that it goes where it is too old, else the last round that has come
 abbrev pub aged_step : Lifecycle → IndexFacts → ℤ → Option Step
-aged_step life f age = if is_over life.retention age then Some (Delete f.index) else start_of f (round_at life.rounds age)
+aged_step life f age = if is_over life.retention age then Some (Delete f.index) else start_step f (round_at life.rounds age)
 
 -- of the members that aren't the write index those whose windows have ended are looked at
 abbrev pub member_step : ℤ → Lifecycle → IndexFacts → Option Step

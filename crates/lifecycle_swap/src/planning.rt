@@ -85,8 +85,8 @@ fn round_at(rounds: &[Round], now: i64, end: i64) -> Option<Round>
     found
 }
 
-fn start_of(facts: &IndexFacts, round: Option<Round>) -> Option<Step>
-    ensures { result ≡ spec.start_of facts.now round }
+fn start_step(facts: &IndexFacts, round: Option<Round>) -> Option<Step>
+    ensures { result ≡ spec.start_step facts.now round }
 {
     let round = round?;
     if !facts.busy && check_interval(facts.interval, round.by).is_ok() {
@@ -107,7 +107,7 @@ fn aged_step(now: i64, life: &Lifecycle, facts: &IndexFacts) -> Option<Step>
         return Some(Step::Delete { index: facts.index });
     }
     let round = round_at(life.rounds.as_slice(), now, facts.end);
-    start_of(facts, round)
+    start_step(facts, round)
 }
 
 fn member_step(now: i64, life: &Lifecycle, facts: &IndexFacts) -> Option<Step>

@@ -11,7 +11,7 @@ use Rattle.stream_catalog.specs.declared.facts.TaskFacts.{TaskFacts}
 use Rattle.stream_catalog.specs.Plain.{PlainStream, PlainFacts}
 use Rattle.downsample_fold.specs.Laws.{KeysAscend}
 use Rattle.stream_catalog.specs.Lists.{updated, facts_name, facts_named, template_named}
-use Rattle.stream_catalog.specs.Sound.{IsHeld, IsMemberOf, EndsBefore, WindowsFollow, IsStream, IsTaskOf, IsThere, form_of, template_form, AreFactsSound, AllAgree, AreOnce}
+use Rattle.stream_catalog.specs.Sound.{IsHeld, IsMemberOf, EndsBefore, WindowsFollow, IsStreamSound, IsTaskOf, IsThere, form_of, template_form, AreFactsSound, AllAgree, AreOnce}
 use Rattle.stream_catalog.proofs.NamedLemmas.{none_not_some, some_is, each_found, each_updated, named_updated, named_updated_here, names_updated}
 use Rattle.stream_catalog.proofs.CountLemmas.{length-updated}
 
@@ -55,9 +55,9 @@ module _ (old new : List HeldIndex) (same : (m : List ℕ) → WindowAt (facts_n
       (same_ends (facts_named m old) (facts_named n old) (facts_named m new) (facts_named n new) (same m) (same n) follow.0, same_windows (n ∷ ms) follow.1)
 
   -- streams of indices that keep templates and windows
-  pub same_streams : (f g : PlainFacts) → f.indices ≡ old → g.indices ≡ new → f.templates ≡ g.templates → (ss : List PlainStream) → Each (IsStream f) ss → Each (IsStream g) ss
+  pub same_streams : (f g : PlainFacts) → f.indices ≡ old → g.indices ≡ new → f.templates ≡ g.templates → (ss : List PlainStream) → Each (IsStreamSound f) ss → Each (IsStreamSound g) ss
   same_streams f g is_old is_new templates ss each =
-      Each-weaker (IsStream f) (IsStream g) (λ s is. record {
+      Each-weaker (IsStreamSound f) (IsStreamSound g) (λ s is. record {
         generation = is.generation;
         life = is.life;
         template = subst (λ ts. IsThere (template_named s.facts.template ts)) templates is.template;
@@ -83,7 +83,7 @@ module _ (n : List ℕ) (g : HeldIndex → HeldIndex) (name : (i : HeldIndex) �
 
   pub changed_facts : (f : PlainFacts) → ((i : HeldIndex) → facts_named n f.indices ≡ Some i → IsHeld f i → IsHeld f (g i)) →
       ((by : Interval) (rises : Bool) (i : HeldIndex) → IsTaskOf by rises (Some i) → IsTaskOf by rises (Some (g i))) →
-      Each (IsStream (record f { indices = updated facts_name n g f.indices })) f.streams →
+      Each (IsStreamSound (record f { indices = updated facts_name n g f.indices })) f.streams →
       AreFactsSound f → AreFactsSound (record f { indices = updated facts_name n g f.indices })
   changed_facts f held task streams sound =
       let new = record f { indices = updated facts_name n g f.indices } in

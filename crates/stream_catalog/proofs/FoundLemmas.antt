@@ -5,7 +5,7 @@ use Rattle.std.proofs.lemmas.Slice.Eq.{bytes_eq-Decides}
 use Rattle.stream_catalog.specs.FoundLaws.{IsStreamAmong, StreamsFound}
 use Rattle.stream_catalog.specs.Lists.{stream_name, stream_named}
 use Rattle.stream_catalog.specs.Plain.{PlainStream, facts_of}
-use Rattle.stream_catalog.specs.Sound.{IsStream}
+use Rattle.stream_catalog.specs.Sound.{IsStreamSound}
 use Rattle.stream_catalog.proofs.NamedLemmas.{none_not_some, some_is, each_found, found_name}
 
 stream_among : (n : List ℕ) (ss : List PlainStream) (s : PlainStream) → stream_named n ss ≡ Some s → IsStreamAmong s ss
@@ -20,5 +20,5 @@ pub streams_found : StreamsFound
 streams_found c n s sound found = record {
   among = stream_among n c.streams s found;
   name = (bytes_eq-Decides (stream_name s) n).0 (found_name stream_name n c.streams s found);
-  sound = each_found stream_name (IsStream (facts_of c)) n c.streams s found sound.facts.streams;
+  sound = each_found stream_name (IsStreamSound (facts_of c)) n c.streams s found sound.facts.streams;
 }

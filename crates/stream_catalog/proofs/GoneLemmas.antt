@@ -14,7 +14,7 @@ use Rattle.stream_catalog.specs.Lists.{on_found, with_found, without, stream_nam
 use Rattle.stream_catalog.specs.Streams.{has_member, is_write}
 use Rattle.stream_catalog.specs.Indices.{index_deleted, task_index, without_member, write_fault}
 use Rattle.stream_catalog.specs.Laws.{StreamDeletionsKeepSound, DeletionsKeepSound}
-use Rattle.stream_catalog.specs.Sound.{times, IsStream, IsIndexSound, IsUnderWay, AreFactsSound, IsSoundCatalog}
+use Rattle.stream_catalog.specs.Sound.{times, IsStreamSound, IsIndexSound, IsUnderWay, AreFactsSound, IsSoundCatalog}
 use Rattle.stream_catalog.proofs.NamedLemmas.{none_not_some, none_found, some_is, filter-map_alike}
 use Rattle.stream_catalog.proofs.CountLemmas.{bytes_eq-sym, bytes_eq-itself, times-append, times-filter, length-filter, ascend_filter, other_head}
 use Rattle.stream_catalog.proofs.AddedLemmas.{each_map}
@@ -24,7 +24,7 @@ use Rattle.stream_catalog.proofs.KeptLemmas.{each_passes, named_kept, times-kept
 -- ---- a catalogue with fewer indices and tasks
 
 pub fewer_catalog : (c : PlainCatalog) (stays : List ℕ → Bool) (ss : List PlainStream) (kept : TaskFacts → Bool) →
-    Each (IsStream (fewer (facts_of c) stays ss kept)) ss → AreFewer c.streams ss → Each (λ t. stays t.index ≡ true) (filter kept c.tasks) → IsSoundCatalog c →
+    Each (IsStreamSound (fewer (facts_of c) stays ss kept)) ss → AreFewer c.streams ss → Each (λ t. stays t.index ≡ true) (filter kept c.tasks) → IsSoundCatalog c →
     IsSoundCatalog (record c { streams = ss; indices = filter (λ i. stays i.facts.name) c.indices; tasks = filter kept c.tasks })
 fewer_catalog c stays ss kept streams less left sound = record {
   facts = subst (λ fs. AreFactsSound (record (facts_of c) { streams = ss; indices = fs; tasks = filter kept c.tasks }))
@@ -121,8 +121,8 @@ stream_deletions_keep_sound c name sound = by_found (stream_named name c.streams
         let stays : List ℕ → Bool = λ n. not (has_member s n) in
         let kept : TaskFacts → Bool = λ t. not (has_member s t.index) in
         fewer_catalog c stays ss kept
-        (Each-both (IsStream f) (λ z. Each (λ m. stays m ≡ true) z.facts.members) (IsStream (fewer f stays ss kept)) (λ z is each. kept_stream f stays ss kept z each is) ss
-        (Each-filter (IsStream f) test c.streams sound.facts.streams)
+        (Each-both (IsStreamSound f) (λ z. Each (λ m. stays m ≡ true) z.facts.members) (IsStreamSound (fewer f stays ss kept)) (λ z is each. kept_stream f stays ss kept z each is) ss
+        (Each-filter (IsStreamSound f) test c.streams sound.facts.streams)
         (others_stay s.facts.members ss (λ n. let apart = members_apart n name c.streams s found in let once = sound.facts.members_once n in omega (arith, apart, once))))
         (record {
           ascend = ascend_filter stream_name test c.streams sound.facts.stream_order;
@@ -156,8 +156,8 @@ index_deleted-sound c n others sound =
     let kept : TaskFacts → Bool = λ t. not (bytes_eq (task_index t) n) in
     let names = names-shorter n c.streams in
     fewer_catalog c stays ss kept
-    (each_map (without_member n) (IsStream (fewer f stays ss kept)) c.streams
-    (Each-both (IsStream f) (λ s. is_write s n ≡ false) (λ s. IsStream (fewer f stays ss kept) (without_member n s))
+    (each_map (without_member n) (IsStreamSound (fewer f stays ss kept)) c.streams
+    (Each-both (IsStreamSound f) (λ s. is_write s n ≡ false) (λ s. IsStreamSound (fewer f stays ss kept) (without_member n s))
     (λ s is other. kept_stream f stays ss kept (without_member n s) (each_passes stays s.facts.members) (shorter_stream f n s (have_time f sound.facts.indices) other is))
     c.streams sound.facts.streams others))
     (record {

@@ -15,7 +15,7 @@ use Rattle.stream_catalog.specs.Lists.{found_by, stream_name, facts_name, facts_
 use Rattle.stream_catalog.specs.Streams.{last_of, is_write}
 use Rattle.stream_catalog.specs.Indices.{without_member, task_index}
 use Rattle.stream_catalog.specs.Lists.{with_found}
-use Rattle.stream_catalog.specs.Sound.{times, Form, form_of, template_form, Agrees, IsHeld, IsMemberOf, EndsBefore, WindowsFollow, IsStream, IsTaskOf, AreFactsSound}
+use Rattle.stream_catalog.specs.Sound.{times, Form, form_of, template_form, Agrees, IsHeld, IsMemberOf, EndsBefore, WindowsFollow, IsStreamSound, IsTaskOf, AreFactsSound}
 use Rattle.stream_catalog.proofs.NamedLemmas.{cons_eq, each_found}
 use Rattle.stream_catalog.proofs.CountLemmas.{times-filter, length-filter, ascend_filter}
 use Rattle.stream_catalog.proofs.AddedLemmas.{each_map, each_of_map, in_three}
@@ -124,7 +124,7 @@ last_kept n (m ∷ k ∷ ms) some other = by_test (bytes_eq m n) (last_kept n (k
     by_test true later = later
     by_test false later = omega arith
 
-pub shorter_stream : (f : PlainFacts) (n : List ℕ) (s : PlainStream) → HaveTime f.indices → is_write s n ≡ false → IsStream f s → IsStream f (without_member n s)
+pub shorter_stream : (f : PlainFacts) (n : List ℕ) (s : PlainStream) → HaveTime f.indices → is_write s n ≡ false → IsStreamSound f s → IsStreamSound f (without_member n s)
 shorter_stream f n s some other is = record {
   generation = is.generation;
   life = is.life;
@@ -150,7 +150,7 @@ module _ (is : List HeldIndex) (stays : List ℕ → Bool) where
       Each-both (λ m. IsMemberOf template (facts_named m is)) (λ m. stays m ≡ true) (λ m. IsMemberOf template (facts_named m (filter (λ i. stays i.name) is)))
       (λ m member kept. subst (IsMemberOf template) (sym (named_kept facts_name stays m is kept)) member) ms members each
 
-pub kept_stream : (f : PlainFacts) (stays : List ℕ → Bool) (ss : List PlainStream) (kept : TaskFacts → Bool) (s : PlainStream) → Each (λ m. stays m ≡ true) s.facts.members → IsStream f s → IsStream (fewer f stays ss kept) s
+pub kept_stream : (f : PlainFacts) (stays : List ℕ → Bool) (ss : List PlainStream) (kept : TaskFacts → Bool) (s : PlainStream) → Each (λ m. stays m ≡ true) s.facts.members → IsStreamSound f s → IsStreamSound (fewer f stays ss kept) s
 kept_stream f stays ss kept s each is = record {
   generation = is.generation;
   life = is.life;
@@ -176,7 +176,7 @@ pub record AreFewer (old new : List PlainStream) : Type 0 where
   pub few : length new ≤ length old
 
 pub fewer_sound : (f : PlainFacts) (stays : List ℕ → Bool) (ss : List PlainStream) (kept : TaskFacts → Bool) →
-    Each (IsStream (fewer f stays ss kept)) ss → AreFewer f.streams ss → Each (λ t. stays t.index ≡ true) (filter kept f.tasks) → AreFactsSound f → AreFactsSound (fewer f stays ss kept)
+    Each (IsStreamSound (fewer f stays ss kept)) ss → AreFewer f.streams ss → Each (λ t. stays t.index ≡ true) (filter kept f.tasks) → AreFactsSound f → AreFactsSound (fewer f stays ss kept)
 fewer_sound f stays ss kept streams less left sound =
     let new = fewer f stays ss kept in
     let test : HeldIndex → Bool = λ i. stays i.name in

@@ -22,7 +22,7 @@ use Rattle.stream_catalog.specs.Streams.{has_member, is_write}
 use Rattle.stream_catalog.specs.Indices.{without_member, task_index}
 use Rattle.stream_catalog.specs.Moves.{overlap, meets_member, ends_late, is_bad_window, remove_refusal, stream_of, add_refusal, move_refusal, insert_member, with_member, removed, added_member, moved, moves_refusal, moved_by}
 use Rattle.stream_catalog.specs.Laws.{MovesKeepSound}
-use Rattle.stream_catalog.specs.Sound.{times, AreOnce, IsHeld, IsMemberOf, EndsBefore, WindowsFollow, IsStream, IsTaskOf, IsUnderWay, AreFactsSound}
+use Rattle.stream_catalog.specs.Sound.{times, AreOnce, IsHeld, IsMemberOf, EndsBefore, WindowsFollow, IsStreamSound, IsTaskOf, IsUnderWay, AreFactsSound}
 use Rattle.stream_catalog.proofs.NamedLemmas.{none_not_some, none_found, some_is, each_found, each_updated, found_name, names_updated}
 use Rattle.stream_catalog.proofs.CountLemmas.{times-append, times-none, times-filter, length-updated}
 use Rattle.stream_catalog.proofs.AddedLemmas.{in_three}
@@ -41,7 +41,7 @@ fewer_tasks f kept sound =
     record {
       templates = sound.templates;
       indices = Each-weaker (IsHeld f) (IsHeld new) (λ i is. record { begins = is.begins; ends = is.ends; some = is.some; mapping = is.mapping; kind = is.kind; template = is.template }) f.indices sound.indices;
-      streams = Each-weaker (IsStream f) (IsStream new) (λ s is. record { generation = is.generation; life = is.life; template = is.template; some = is.some; members = is.members; windows = is.windows }) f.streams sound.streams;
+      streams = Each-weaker (IsStreamSound f) (IsStreamSound new) (λ s is. record { generation = is.generation; life = is.life; template = is.template; some = is.some; members = is.members; windows = is.windows }) f.streams sound.streams;
       tasks = Each-filter (λ t. IsTaskOf t.by t.rises (facts_named t.index f.indices)) kept f.tasks sound.tasks;
       indices_agree = sound.indices_agree;
       templates_agree = sound.templates_agree;
@@ -93,10 +93,10 @@ removed-sound f stream index none sound = by_found (stream_named stream f.stream
         let other = none_when (is_write s index) (IsWriteIndex stream index) two.0 in
         let ss = updated stream_name stream (without_member index) f.streams in
         let names : map stream_name ss ≡ map stream_name f.streams = names_updated stream_name stream (without_member index) f.streams (λ z. refl) in
-        let shorter = shorter_stream f index s (have_time f sound.indices) other (each_found stream_name (IsStream f) stream f.streams s found sound.streams) in
+        let shorter = shorter_stream f index s (have_time f sound.indices) other (each_found stream_name (IsStreamSound f) stream f.streams s found sound.streams) in
         fewer_tasks (record f { streams = ss }) (λ t. not (bytes_eq (task_index t) index))
         (other_streams f ss
-        (each_updated stream_name (IsStream f) stream (without_member index) f.streams (λ z z_found. subst (λ y. IsStream f (without_member index y)) (some_is (sym found ∙ z_found)) shorter) sound.streams)
+        (each_updated stream_name (IsStreamSound f) stream (without_member index) f.streams (λ z z_found. subst (λ y. IsStreamSound f (without_member index y)) (some_is (sym found ∙ z_found)) shorter) sound.streams)
         (subst KeysAscend (sym names) sound.stream_order)
         (subst (λ ns. AreOnce (ns ++ map (λ i. i.name) f.indices ++ map (λ t. t.target) f.tasks)) (sym names) sound.names_once)
         (λ n. let was = sound.members_once n in let less = members-removed stream index n f.streams in omega (arith, was, less))
@@ -261,8 +261,8 @@ with_member-sound f stream index s i found there none sound =
     let name_is : i.name ≡ index = (bytes_eq-Decides i.name index).0 (found_name facts_name index f.indices i there) in
     let here : facts_named i.name f.indices ≡ Some i = ap (λ n. facts_named n f.indices) name_is ∙ there in
     let time = have_time f sound.indices in
-    let was = each_found stream_name (IsStream f) stream f.streams s found sound.streams in
-    let next : IsStream f (with_member f.indices i s) = record {
+    let was = each_found stream_name (IsStreamSound f) stream f.streams s found sound.streams in
+    let next : IsStreamSound f (with_member f.indices i s) = record {
       generation = was.generation;
       life = was.life;
       template = was.template;
@@ -273,7 +273,7 @@ with_member-sound f stream index s i found there none sound =
     let ss = updated stream_name stream (with_member f.indices i) f.streams in
     let names : map stream_name ss ≡ map stream_name f.streams = names_updated stream_name stream (with_member f.indices i) f.streams (λ z. refl) in
     other_streams f ss
-    (each_updated stream_name (IsStream f) stream (with_member f.indices i) f.streams (λ z z_found. subst (λ y. IsStream f (with_member f.indices i y)) (some_is (sym found ∙ z_found)) next) sound.streams)
+    (each_updated stream_name (IsStreamSound f) stream (with_member f.indices i) f.streams (λ z z_found. subst (λ y. IsStreamSound f (with_member f.indices i y)) (some_is (sym found ∙ z_found)) next) sound.streams)
     (subst KeysAscend (sym names) sound.stream_order)
     (subst (λ ns. AreOnce (ns ++ map (λ j. j.name) f.indices ++ map (λ t. t.target) f.tasks)) (sym names) sound.names_once)
     (once_grown i.name (all_members f.streams) (all_members ss) (λ n. members-added f.indices i stream n s f.streams found) (subst (λ n. times n (all_members f.streams) ≡ 0) (sym name_is) (no_stream index f.streams alone)) sound.members_once)

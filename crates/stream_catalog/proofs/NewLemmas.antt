@@ -30,7 +30,7 @@ use Rattle.stream_catalog.specs.Limits.{most_streams, most_indices}
 use Rattle.stream_catalog.specs.Names.{names_of, is_taken, matches, better_of, outranks, template_for}
 use Rattle.stream_catalog.specs.Streams.{new_index, new_stream, first_start, first_name, create_refusal}
 use Rattle.stream_catalog.specs.Laws.{CreationsKeepSound}
-use Rattle.stream_catalog.specs.Sound.{times, AreOnce, IsThere, IsHeld, IsMemberOf, IsStream, Form, form_of, template_form, Agrees, IsIndexSound, IsUnderWay, AreFactsSound, IsSoundCatalog}
+use Rattle.stream_catalog.specs.Sound.{times, AreOnce, IsThere, IsHeld, IsMemberOf, IsStreamSound, Form, form_of, template_form, Agrees, IsIndexSound, IsUnderWay, AreFactsSound, IsSoundCatalog}
 use Rattle.stream_catalog.proofs.NamedLemmas.{none_not_some, some_is, each_found, each_inserted, inserted-map}
 use Rattle.stream_catalog.proofs.CountLemmas.{bytes_eq-itself, times-append, times-none, times-inserted, named_new, length-inserted, ascend_inserted}
 use Rattle.stream_catalog.proofs.AddedLemmas.{Suits, each_of_map, in_three, alone_of, added_sound}
@@ -220,7 +220,7 @@ created_facts f name now t is_now found is may sound =
     let fresh : times j.facts.name indices ≡ 0 = alone_of f j.facts.name may.index_free in
     let look : facts_named j.facts.name js ≡ Some j.facts = named_new facts_name j.facts f.indices fresh in
     other_streams with_index ss
-    (each_inserted stream_name (IsStream with_index) s f.streams (record {
+    (each_inserted stream_name (IsStreamSound with_index) s f.streams (record {
       generation = omega arith;
       life = tt;
       template = subst IsThere (sym found) tt;

@@ -16,7 +16,7 @@ use Rattle.downsample_fold.specs.Intervals.{interval_fault}
 use Rattle.downsample_fold.specs.Laws.{KeysAscend}
 use Rattle.index_names.specs.Backing.{downsample_name}
 use Rattle.lifecycle_swap.specs.Ends.{end_after}
-use Rattle.lifecycle_swap.specs.Plan.{if_so, extension, is_over, round_at, start_of, aged_step, member_step, plan_of}
+use Rattle.lifecycle_swap.specs.Plan.{if_so, extension, is_over, round_at, start_step, aged_step, member_step, plan_of}
 use Rattle.lifecycle_swap.specs.declared.lifecycles.Lifecycle.{Lifecycle}
 use Rattle.lifecycle_swap.specs.declared.lifecycles.Round.{Round}
 use Rattle.lifecycle_swap.specs.declared.planning.IndexFacts.{IndexFacts}
@@ -32,7 +32,7 @@ use Rattle.stream_catalog.specs.Streams.{last_of, is_write, write_name}
 use Rattle.stream_catalog.specs.Indices.{blocked_index, task_index, without_member}
 use Rattle.stream_catalog.specs.Laws.{RunsKeepSound}
 use Rattle.stream_catalog.specs.Runs.{Running, member_facts, facts_from, ends_at, extended, deleted, new_task, started, started_if_free, start_at, run_step, run_steps, run_stream, run_streams, lifecycle_run}
-use Rattle.stream_catalog.specs.Sound.{times, AreOnce, IsStream, IsSoundCatalog}
+use Rattle.stream_catalog.specs.Sound.{times, AreOnce, IsStreamSound, IsSoundCatalog}
 use Rattle.stream_catalog.proofs.NamedLemmas.{none_not_some, some_is, found_name, named-map, without-map, named_updated, named_without, updated-map}
 use Rattle.stream_catalog.proofs.CountLemmas.{other_head, bytes_eq-sym, bytes_eq-itself, times-append, times-filter}
 use Rattle.stream_catalog.proofs.ChangeLemmas.{facts_named-facts}
@@ -417,9 +417,9 @@ module _ (c : PlainCatalog) (s : PlainStream) (sound : IsSoundCatalog c) (found 
   -- what holds of the stream and of those that don't have the member holds of all
   of_all : (P : PlainStream → Type 0) (n : List ℕ) → 1 ≤ times n s.facts.members → P s → ((z : PlainStream) → 0 < length z.facts.members → times n z.facts.members ≡ 0 → P z) → Each P c.streams
   of_all P n some mine theirs =
-      Each-both (IsStream (facts_of c)) (λ z. stream_named z.facts.name c.streams ≡ Some z) P (λ z is there. by_test z is there (bytes_eq s.facts.name z.facts.name) refl) c.streams sound.facts.streams (all_found stream_name c.streams sound.facts.stream_order)
+      Each-both (IsStreamSound (facts_of c)) (λ z. stream_named z.facts.name c.streams ≡ Some z) P (λ z is there. by_test z is there (bytes_eq s.facts.name z.facts.name) refl) c.streams sound.facts.streams (all_found stream_name c.streams sound.facts.stream_order)
     where
-      by_test : (z : PlainStream) → IsStream (facts_of c) z → stream_named z.facts.name c.streams ≡ Some z → (b : Bool) → bytes_eq s.facts.name z.facts.name ≡ b → P z
+      by_test : (z : PlainStream) → IsStreamSound (facts_of c) z → stream_named z.facts.name c.streams ≡ Some z → (b : Bool) → bytes_eq s.facts.name z.facts.name ≡ b → P z
       by_test z is there true same = subst P (some_is (sym found ∙ (ap (λ k. stream_named k c.streams) ((bytes_eq-Decides s.facts.name z.facts.name).0 same) ∙ there))) mine
       by_test z is there false other = theirs z is.some (others_apart z there other n some)
 
@@ -501,7 +501,7 @@ module _ (c : PlainCatalog) (s : PlainStream) (sound : IsSoundCatalog c) (found 
       aged_step life (member_facts f s place i) (now -ℤ i.end) ≡ Some step → IsDue end c s false place (record { name = m; step = step })
   aged_due life place m i step some there write is = by_over (is_over life.retention (now -ℤ i.end)) is
     where
-      by_round : (o : Option Round) → start_of (member_facts f s place i) o ≡ Some step → IsDue end c s false place (record { name = m; step = step })
+      by_round : (o : Option Round) → start_step (member_facts f s place i) o ≡ Some step → IsDue end c s false place (record { name = m; step = step })
       by_round None is = absurd (none_not_some is)
       by_round (Some round) is =
           let told = if_so-some (not (list_any (λ t. bytes_eq t.index i.name) f.tasks) && is_none (interval_fault i.interval round.by)) (Start place round.by) step is in
@@ -512,7 +512,7 @@ module _ (c : PlainCatalog) (s : PlainStream) (sound : IsSoundCatalog c) (found 
           } in
           subst (λ st. IsDue end c s false place (record { name = m; step = st })) told.1 (record { place_is = refl; may = may; is_so = write; among = some })
 
-      by_over : (b : Bool) → (if b then Some (Delete place) else start_of (member_facts f s place i) (round_at life.rounds (now -ℤ i.end))) ≡ Some step → IsDue end c s false place (record { name = m; step = step })
+      by_over : (b : Bool) → (if b then Some (Delete place) else start_step (member_facts f s place i) (round_at life.rounds (now -ℤ i.end))) ≡ Some step → IsDue end c s false place (record { name = m; step = step })
       by_over true is = subst (λ st. IsDue end c s false place (record { name = m; step = st })) (some_is is) (record { place_is = refl; may = not_written c s sound found m some write; is_so = write; among = some })
       by_over false is = by_round (round_at life.rounds (now -ℤ i.end)) is
 

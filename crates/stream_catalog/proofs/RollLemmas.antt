@@ -26,7 +26,7 @@ use Rattle.stream_catalog.specs.Limits.{most_indices}
 use Rattle.stream_catalog.specs.Names.{is_taken}
 use Rattle.stream_catalog.specs.Streams.{last_of, write_name, next_name, next_index, with_next, rollover_refusal}
 use Rattle.stream_catalog.specs.Laws.{RolloversKeepSound}
-use Rattle.stream_catalog.specs.Sound.{times, AreOnce, IsHeld, IsMemberOf, EndsBefore, WindowsFollow, IsStream, IsIndexSound, IsUnderWay, AreFactsSound, IsSoundCatalog}
+use Rattle.stream_catalog.specs.Sound.{times, AreOnce, IsHeld, IsMemberOf, EndsBefore, WindowsFollow, IsStreamSound, IsIndexSound, IsUnderWay, AreFactsSound, IsSoundCatalog}
 use Rattle.stream_catalog.proofs.NamedLemmas.{none_not_some, some_is, each_found, each_inserted, each_updated, found_name, names_updated, inserted-map}
 use Rattle.stream_catalog.proofs.CountLemmas.{times-append, named_new, length-updated}
 use Rattle.stream_catalog.proofs.AddedLemmas.{alone_of, added_sound, still_there}
@@ -136,8 +136,8 @@ rolled_facts f name now s t w is_now found by_name there may sound =
     let fresh : times x (map facts_name f.indices) ≡ 0 = alone_of f x may.free in
     let look : facts_named x js ≡ Some j.facts = named_new facts_name j.facts f.indices fresh in
     let look_write : facts_named (write_name s) js ≡ Some w = still_there j.facts f.indices fresh (write_name s) w there in
-    let was = each_found stream_name (IsStream with_index) name f.streams s found grown.streams in
-    let next : IsStream with_index (with_next now s) = record {
+    let was = each_found stream_name (IsStreamSound with_index) name f.streams s found grown.streams in
+    let next : IsStreamSound with_index (with_next now s) = record {
       generation = let room = may.generation in omega (arith, room);
       life = was.life;
       template = was.template;
@@ -147,7 +147,7 @@ rolled_facts f name now s t w is_now found by_name there may sound =
     } in
     let names : map stream_name ss ≡ map stream_name f.streams = names_updated stream_name name (with_next now) f.streams (λ z. refl) in
     other_streams with_index ss
-    (each_updated stream_name (IsStream with_index) name (with_next now) f.streams (λ z z_found. subst (λ y. IsStream with_index (with_next now y)) (some_is (sym found ∙ z_found)) next) grown.streams)
+    (each_updated stream_name (IsStreamSound with_index) name (with_next now) f.streams (λ z z_found. subst (λ y. IsStreamSound with_index (with_next now y)) (some_is (sym found ∙ z_found)) next) grown.streams)
     (subst KeysAscend (sym names) sound.stream_order)
     (subst (λ ns. AreOnce (ns ++ map facts_name js ++ map (λ u. u.target) f.tasks)) (sym names) grown.names_once)
     (once_grown x (all_members f.streams) (all_members ss) (λ n. members-updated name now s n f.streams found) (no_members f x fresh f.streams sound.streams) sound.members_once)

@@ -21,7 +21,7 @@ use Rattle.stream_catalog.specs.Lists.{updated, stream_name, index_name, facts_n
 use Rattle.stream_catalog.specs.Names.{names_of, is_taken}
 use Rattle.stream_catalog.specs.Indices.{blocked_index, blocked_in, task_index}
 use Rattle.stream_catalog.specs.Runs.{Running, ends_at, new_task, started}
-use Rattle.stream_catalog.specs.Sound.{times, AreOnce, IsWithin, Meets, AreRaw, AreFolds, AreRows, IsHeld, IsMemberOf, EndsBefore, WindowsFollow, IsStream, KeepsMark, IsTaskOf, IsIndexSound, IsUnderWay, AreFactsSound, IsSoundCatalog}
+use Rattle.stream_catalog.specs.Sound.{times, AreOnce, IsWithin, Meets, AreRaw, AreFolds, AreRows, IsHeld, IsMemberOf, EndsBefore, WindowsFollow, IsStreamSound, KeepsMark, IsTaskOf, IsIndexSound, IsUnderWay, AreFactsSound, IsSoundCatalog}
 use Rattle.stream_catalog.proofs.NamedLemmas.{none_not_some, some_is, each_updated, named_updated, named_updated_here, names_updated, updated-map}
 use Rattle.stream_catalog.proofs.CountLemmas.{bytes_eq-sym, times-append, times-none}
 use Rattle.stream_catalog.proofs.FactLemmas.{changed_facts}
@@ -89,7 +89,7 @@ module _ (is : List HeldIndex) (n : List ℕ) (end : ℤ) where
   members_grown : (template : List ℕ) (ms : List (List ℕ)) → Each (λ m. IsMemberOf template (facts_named m is)) ms → Each (λ m. IsMemberOf template (facts_named m later)) ms
   members_grown template ms each = Each-weaker (λ m. IsMemberOf template (facts_named m is)) (λ m. IsMemberOf template (facts_named m later)) (λ m is_member. member_begin template (facts_named m is) (facts_named m later) (begins_stay m) is_member) ms each
 
-stream_grown : (f : PlainFacts) (n : List ℕ) (end : ℤ) (s : PlainStream) → IsStream f s → NotBefore n s.facts.members → IsStream (record f { indices = updated facts_name n (grown end) f.indices }) s
+stream_grown : (f : PlainFacts) (n : List ℕ) (end : ℤ) (s : PlainStream) → IsStreamSound f s → NotBefore n s.facts.members → IsStreamSound (record f { indices = updated facts_name n (grown end) f.indices }) s
 stream_grown f n end s is before = record {
   generation = is.generation;
   life = is.life;
@@ -135,7 +135,7 @@ extended-sound c n end instant sooner last sound =
           (changed_facts n (grown end) (λ i. refl) (λ i. refl) f
           (λ i found is. record { begins = is.begins; ends = instant; some = less_upto i.start i.end end is.some (sooner i found); mapping = is.mapping; kind = is.kind; template = is.template })
           (λ by rises i is. is)
-          (Each-both (IsStream f) (λ s. NotBefore n s.facts.members) (IsStream new) (λ s is before. stream_grown f n end s is before) c.streams sound.facts.streams last)
+          (Each-both (IsStreamSound f) (λ s. NotBefore n s.facts.members) (IsStreamSound new) (λ s is before. stream_grown f n end s is before) c.streams sound.facts.streams last)
           sound.facts);
       indices = each_updated index_name IsIndexSound n (ends_at end) c.indices
           (λ i found.
@@ -172,7 +172,7 @@ task_added f t holds fresh alone sound =
     record {
       templates = sound.templates;
       indices = Each-weaker (IsHeld f) (IsHeld new) (λ i is. record { begins = is.begins; ends = is.ends; some = is.some; mapping = is.mapping; kind = is.kind; template = is.template }) f.indices sound.indices;
-      streams = Each-weaker (IsStream f) (IsStream new) (λ s is. record { generation = is.generation; life = is.life; template = is.template; some = is.some; members = is.members; windows = is.windows }) f.streams sound.streams;
+      streams = Each-weaker (IsStreamSound f) (IsStreamSound new) (λ s is. record { generation = is.generation; life = is.life; template = is.template; some = is.some; members = is.members; windows = is.windows }) f.streams sound.streams;
       tasks = each_end (λ u. IsTaskOf u.by u.rises (facts_named u.index f.indices)) f.tasks t sound.tasks holds;
       indices_agree = sound.indices_agree;
       templates_agree = sound.templates_agree;

@@ -9,16 +9,16 @@ use Rattle.lifecycle_swap.specs.declared.lifecycles.Lifecycle.{Lifecycle}
 use Rattle.stream_catalog.specs.Plain.{PlainStream, PlainFacts, facts_of}
 use Rattle.stream_catalog.specs.Lists.{updated, stream_name}
 use Rattle.stream_catalog.specs.Laws.{LivesKeepSound}
-use Rattle.stream_catalog.specs.Sound.{AreOnce, IsHeld, IsStream, AreFactsSound}
+use Rattle.stream_catalog.specs.Sound.{AreOnce, IsHeld, IsStreamSound, AreFactsSound}
 use Rattle.stream_catalog.proofs.NamedLemmas.{each_found, each_updated, names_updated}
 use Rattle.stream_catalog.proofs.CountLemmas.{length-updated}
 
-pub other_streams : (f : PlainFacts) (ss : List PlainStream) → Each (IsStream f) ss → KeysAscend (map stream_name ss) → AreOnce (map stream_name ss ++ map (λ i. i.name) f.indices ++ map (λ t. t.target) f.tasks) →
+pub other_streams : (f : PlainFacts) (ss : List PlainStream) → Each (IsStreamSound f) ss → KeysAscend (map stream_name ss) → AreOnce (map stream_name ss ++ map (λ i. i.name) f.indices ++ map (λ t. t.target) f.tasks) →
     AreOnce (flat_map (λ (s : PlainStream). s.facts.members) ss) → length ss ≤ 1000 → AreFactsSound f → AreFactsSound (record f { streams = ss })
 other_streams f ss each order once members few sound = record {
   templates = sound.templates;
   indices = Each-weaker (IsHeld f) (IsHeld (record f { streams = ss })) (λ i is. record { begins = is.begins; ends = is.ends; some = is.some; mapping = is.mapping; kind = is.kind; template = is.template }) f.indices sound.indices;
-  streams = Each-weaker (IsStream f) (IsStream (record f { streams = ss })) (λ s is. record { generation = is.generation; life = is.life; template = is.template; some = is.some; members = is.members; windows = is.windows }) ss each;
+  streams = Each-weaker (IsStreamSound f) (IsStreamSound (record f { streams = ss })) (λ s is. record { generation = is.generation; life = is.life; template = is.template; some = is.some; members = is.members; windows = is.windows }) ss each;
   tasks = sound.tasks;
   indices_agree = sound.indices_agree;
   templates_agree = sound.templates_agree;
@@ -55,8 +55,8 @@ lives_keep_sound c name life fits sound =
     let names : map stream_name (updated stream_name name (lives life) c.streams) ≡ map stream_name c.streams = names_updated stream_name name (lives life) c.streams (λ s. refl) in
     record {
       facts = other_streams f (updated stream_name name (lives life) c.streams)
-          (each_updated stream_name (IsStream f) name (lives life) c.streams
-          (λ s found. let is = each_found stream_name (IsStream f) name c.streams s found sound.facts.streams in record { generation = is.generation; life = fits; template = is.template; some = is.some; members = is.members; windows = is.windows }) sound.facts.streams)
+          (each_updated stream_name (IsStreamSound f) name (lives life) c.streams
+          (λ s found. let is = each_found stream_name (IsStreamSound f) name c.streams s found sound.facts.streams in record { generation = is.generation; life = fits; template = is.template; some = is.some; members = is.members; windows = is.windows }) sound.facts.streams)
           (subst KeysAscend (sym names) sound.facts.stream_order)
           (subst (λ ns. AreOnce (ns ++ map (λ i. i.name) f.indices ++ map (λ t. t.target) f.tasks)) (sym names) sound.facts.names_once)
           (subst AreOnce (sym (same_members name life c.streams)) sound.facts.members_once)

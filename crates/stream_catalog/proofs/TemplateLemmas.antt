@@ -23,7 +23,7 @@ use Rattle.stream_catalog.specs.Lists.{when, inserted, without, template_name, t
 use Rattle.stream_catalog.specs.Limits.{most_templates}
 use Rattle.stream_catalog.specs.Streams.{maps_otherwise, changed_field}
 use Rattle.stream_catalog.specs.Laws.{TemplatesKeepSound}
-use Rattle.stream_catalog.specs.Sound.{times, IsThere, IsHeld, IsStream, form_of, template_form, Agrees}
+use Rattle.stream_catalog.specs.Sound.{times, IsThere, IsHeld, IsStreamSound, form_of, template_form, Agrees}
 use Rattle.stream_catalog.proofs.NamedLemmas.{none_not_some, none_found, each_inserted, named_inserted, named_without}
 use Rattle.stream_catalog.proofs.CountLemmas.{named_new, length-filter, length-inserted, length-without, ascend_inserted, ascend_filter}
 use Rattle.stream_catalog.proofs.AddedLemmas.{each_map, each_of_map}
@@ -134,7 +134,7 @@ templates_keep_sound c t is_template sound none =
       facts = record {
         templates = each_inserted template_name IsTemplate t left is_template (Each-filter IsTemplate test f.templates sound.facts.templates);
         indices = Each-weaker (IsHeld f) (IsHeld new) (λ i is. record { begins = is.begins; ends = is.ends; some = is.some; mapping = is.mapping; kind = is.kind; template = there_still f.templates t i.template is.template }) f.indices sound.facts.indices;
-        streams = Each-weaker (IsStream f) (IsStream new) (λ s is. record {
+        streams = Each-weaker (IsStreamSound f) (IsStreamSound new) (λ s is. record {
           generation = is.generation;
           life = is.life;
           template = there_still f.templates t s.facts.template is.template;

@@ -35,8 +35,8 @@ use Rattle.stream_catalog.specs.Lists.{template_name, stream_name, facts_name, t
 use Rattle.stream_catalog.specs.Limits.{most_templates, most_streams, most_indices}
 use Rattle.stream_catalog.specs.Names.{names_of}
 use Rattle.stream_catalog.specs.WellNamed.{IsTemplateNamed, IsStreamNamed, IsIndexNamed, IsTaskNamed, IsWellNamed}
-use Rattle.stream_catalog.specs.Sound.{IsKind, IsThere, IsHeld, IsMemberOf, EndsBefore, WindowsFollow, IsLife, IsStream, KeepsMark, IsTaskOf, times, AreOnce, Form, form_of, template_form, Agrees, AllAgree, AreFactsSound}
-use Rattle.stream_catalog.specs.FactTests.{is_instant, is_kind, is_held, is_member_of, ends_before, windows_follow, is_life, is_stream, is_same, keeps_mark, is_task_of, fields_agree, agrees, all_agree, keys_ascend, are_once, are_each_sound, do_forms_agree, do_lists_ascend, are_names_once, are_facts_sound, are_well_named}
+use Rattle.stream_catalog.specs.Sound.{IsKind, IsThere, IsHeld, IsMemberOf, EndsBefore, WindowsFollow, IsLife, IsStreamSound, KeepsMark, IsTaskOf, times, AreOnce, Form, form_of, template_form, Agrees, AllAgree, AreFactsSound}
+use Rattle.stream_catalog.specs.FactTests.{is_instant, is_kind, is_held, is_member_of, ends_before, windows_follow, is_life, is_stream_sound, is_same, keeps_mark, is_task_of, fields_agree, agrees, all_agree, keys_ascend, are_once, are_each_sound, do_forms_agree, do_lists_ascend, are_names_once, are_facts_sound, are_well_named}
 use Rattle.stream_catalog.specs.Laws.{FactsAreTested, NamesAreTested}
 use Rattle.stream_catalog.proofs.CountLemmas.{bytes_eq-itself}
 use Rattle.stream_catalog.proofs.TemplateLemmas.{same_field}
@@ -122,7 +122,7 @@ life_tells : (o : Option Lifecycle) → Decides (is_life o) (IsLife o)
 life_tells None = (λ is. tt, λ is. refl)
 life_tells (Some life) = own_tells (is_lifecycle life)
 
-stream_tells : (f : PlainFacts) (s : PlainStream) → Decides (is_stream f s) (IsStream f s)
+stream_tells : (f : PlainFacts) (s : PlainStream) → Decides (is_stream_sound f s) (IsStreamSound f s)
 stream_tells f s =
     let members = each_tells (λ m. is_member_of s.facts.template (facts_named m f.indices)) (λ m. IsMemberOf s.facts.template (facts_named m f.indices))
     (λ m. member_tells s.facts.template (facts_named m f.indices)) s.facts.members in
@@ -234,7 +234,7 @@ once_tells (m ∷ ms) = (λ is n. by_test n (bytes_eq m n) refl (and_parts (time
 facts_tell : (f : PlainFacts) → Each IsTemplate f.templates → Each (λ i. IsMapping i.mapping) f.indices → Decides (are_facts_sound f) (AreFactsSound f)
 facts_tell f templates mapped =
     let indices = map form_of f.indices in
-    let each = and_tells (list_all (is_held f) f.indices) _ (each_held f f.indices mapped) (and_tells (list_all (is_stream f) f.streams) _ (each_tells (is_stream f) (IsStream f) (stream_tells f) f.streams)
+    let each = and_tells (list_all (is_held f) f.indices) _ (each_held f f.indices mapped) (and_tells (list_all (is_stream_sound f) f.streams) _ (each_tells (is_stream_sound f) (IsStreamSound f) (stream_tells f) f.streams)
     (each_tells (λ t. is_task_of t.by t.rises (facts_named t.index f.indices)) (λ t. IsTaskOf t.by t.rises (facts_named t.index f.indices)) (λ t. task_tells t.by t.rises (facts_named t.index f.indices)) f.tasks)) in
     let forms = and_tells (all_agree indices indices) _ (forms_tell indices indices) (forms_tell indices (map template_form f.templates)) in
     let order = and_tells (keys_ascend (map template_name f.templates)) _ (ascend_tells (map template_name f.templates))

@@ -18,7 +18,7 @@ use Rattle.stream_catalog.specs.Lists.{inserted, without, index_name, facts_name
 use Rattle.stream_catalog.specs.Indices.{folded_facts, folded_index}
 use Rattle.stream_catalog.specs.Units.{renamed, with_renamed, swapped, next_done, advanced_at, unit_from, unit_of}
 use Rattle.stream_catalog.specs.Laws.{UnitsKeepSound}
-use Rattle.stream_catalog.specs.Sound.{times, AreOnce, Form, form_of, template_form, Agrees, IsThere, IsHeld, IsMemberOf, WindowsFollow, IsStream, IsTaskOf, IsIndexSound, IsUnderWay, AreFactsSound, IsSoundCatalog}
+use Rattle.stream_catalog.specs.Sound.{times, AreOnce, Form, form_of, template_form, Agrees, IsThere, IsHeld, IsMemberOf, WindowsFollow, IsStreamSound, IsTaskOf, IsIndexSound, IsUnderWay, AreFactsSound, IsSoundCatalog}
 use Rattle.stream_catalog.proofs.NamedLemmas.{inserted-map, without-map, each_found, each_inserted, named_inserted, named_without, found_name}
 use Rattle.stream_catalog.proofs.CountLemmas.{named_new, other_head, length-without, times-append, times-filter, times-inserted, some_named, apart_of, ascend_inserted, ascend_filter, length-inserted, bytes_eq-sym, bytes_eq-itself}
 use Rattle.stream_catalog.proofs.ChangeLemmas.{facts_named-facts}
@@ -79,7 +79,7 @@ module _ (is : List HeldIndex) (n : List ℕ) (i j : HeldIndex) (found : facts_n
   windows_follow (m ∷ k ∷ ms) follow =
       (same_ends (facts_named m is) (facts_named k is) (facts_named (renamed n j.name m) replaced) (facts_named (renamed n j.name k) replaced) (window_stays m) (window_stays k) follow.0, windows_follow (k ∷ ms) follow.1)
 
-  pub streams_stay : (f g : PlainFacts) → f.indices ≡ is → g.indices ≡ replaced → f.templates ≡ g.templates → (ss : List PlainStream) → Each (IsStream f) ss → Each (IsStream g) (map (with_renamed n j.name) ss)
+  pub streams_stay : (f g : PlainFacts) → f.indices ≡ is → g.indices ≡ replaced → f.templates ≡ g.templates → (ss : List PlainStream) → Each (IsStreamSound f) ss → Each (IsStreamSound g) (map (with_renamed n j.name) ss)
   streams_stay f g was now templates [] each = tt
   streams_stay f g was now templates (s ∷ ss) each = (
     record {
@@ -102,7 +102,7 @@ pub member_counted : (template : List ℕ) (is : List HeldIndex) (m : List ℕ) 
 member_counted template is m None there is_member = absurd is_member
 member_counted template is m (Some k) there is_member = some_named facts_name m is k there
 
-pub no_member : (f : PlainFacts) (n : List ℕ) → times n (map facts_name f.indices) ≡ 0 → (s : PlainStream) → IsStream f s → times n s.facts.members ≡ 0
+pub no_member : (f : PlainFacts) (n : List ℕ) → times n (map facts_name f.indices) ≡ 0 → (s : PlainStream) → IsStreamSound f s → times n s.facts.members ≡ 0
 no_member f n none s is = go s.facts.members is.members
   where
     go : (ms : List (List ℕ)) → Each (λ m. IsMemberOf s.facts.template (facts_named m f.indices)) ms → times n ms ≡ 0
@@ -116,7 +116,7 @@ no_member f n none s is = go s.facts.members is.members
             absurd (omega (arith, some, same, none))
         by_test false other later = later
 
-pub no_members : (f : PlainFacts) (n : List ℕ) → times n (map facts_name f.indices) ≡ 0 → (ss : List PlainStream) → Each (IsStream f) ss → times n (flat_map (λ s. s.facts.members) ss) ≡ 0
+pub no_members : (f : PlainFacts) (n : List ℕ) → times n (map facts_name f.indices) ≡ 0 → (ss : List PlainStream) → Each (IsStreamSound f) ss → times n (flat_map (λ s. s.facts.members) ss) ≡ 0
 no_members f n none [] each = refl
 no_members f n none (s ∷ ss) each =
     let here = no_member f n none s each.0 in
@@ -365,8 +365,8 @@ stepped_sound c task ts i is there not_last sound =
     held_again : (f : PlainFacts) (us : List TaskFacts) (xs : List PlainIndex) → Each (IsHeld f) (map (λ k. k.facts) xs) → Each (IsHeld (record f { tasks = us })) (map (λ k. k.facts) xs)
     held_again f us xs each = Each-weaker (IsHeld f) (IsHeld (record f { tasks = us })) (λ k held. record { begins = held.begins; ends = held.ends; some = held.some; mapping = held.mapping; kind = held.kind; template = held.template }) (map (λ k. k.facts) xs) each
 
-    streams_again : (f : PlainFacts) (us : List TaskFacts) (ss : List PlainStream) → Each (IsStream f) ss → Each (IsStream (record f { tasks = us })) ss
-    streams_again f us ss each = Each-weaker (IsStream f) (IsStream (record f { tasks = us })) (λ s is. record { generation = is.generation; life = is.life; template = is.template; some = is.some; members = is.members; windows = is.windows }) ss each
+    streams_again : (f : PlainFacts) (us : List TaskFacts) (ss : List PlainStream) → Each (IsStreamSound f) ss → Each (IsStreamSound (record f { tasks = us })) ss
+    streams_again f us ss each = Each-weaker (IsStreamSound f) (IsStreamSound (record f { tasks = us })) (λ s is. record { generation = is.generation; life = is.life; template = is.template; some = is.some; members = is.members; windows = is.windows }) ss each
 
 pub units_keep_sound : UnitsKeepSound
 unfolding unit_of

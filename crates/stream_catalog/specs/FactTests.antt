@@ -52,8 +52,8 @@ abbrev pub is_life : Option Lifecycle → Bool
 is_life None = true
 is_life (Some life) = is_lifecycle life
 
-abbrev pub is_stream : PlainFacts → PlainStream → Bool
-is_stream f s =
+abbrev pub is_stream_sound : PlainFacts → PlainStream → Bool
+is_stream_sound f s =
     nat_le s.facts.generation greatest_generation && (is_life s.life && (is_some (template_named s.facts.template f.templates) && (nat_lt 0 (length s.facts.members)
     && (list_all (λ m. is_member_of s.facts.template (facts_named m f.indices)) s.facts.members && windows_follow (map (λ m. facts_named m f.indices) s.facts.members)))))
 
@@ -89,7 +89,7 @@ are_once [] = true
 are_once (n ∷ ns) = (times n ns == 0) && are_once ns
 
 abbrev pub are_each_sound : PlainFacts → Bool
-are_each_sound f = list_all (is_held f) f.indices && (list_all (is_stream f) f.streams && list_all (λ t. is_task_of t.by t.rises (facts_named t.index f.indices)) f.tasks)
+are_each_sound f = list_all (is_held f) f.indices && (list_all (is_stream_sound f) f.streams && list_all (λ t. is_task_of t.by t.rises (facts_named t.index f.indices)) f.tasks)
 
 abbrev pub do_forms_agree : PlainFacts → Bool
 do_forms_agree f = all_agree (map form_of f.indices) (map form_of f.indices) && all_agree (map form_of f.indices) (map template_form f.templates)

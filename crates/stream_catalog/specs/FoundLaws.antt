@@ -2,7 +2,7 @@
 use Rattle.std.specs.Prelude.{◌≡◌, ◌⊎◌, ℕ, List, [], ◌∷◌, Some}
 use Rattle.stream_catalog.specs.Lists.{stream_name, stream_named}
 use Rattle.stream_catalog.specs.Plain.{PlainStream, PlainCatalog, facts_of}
-use Rattle.stream_catalog.specs.Sound.{IsStream, IsSoundCatalog}
+use Rattle.stream_catalog.specs.Sound.{IsStreamSound, IsSoundCatalog}
 
 abbrev pub IsStreamAmong : PlainStream → List PlainStream → Type 0
 IsStreamAmong s [] = ⊥
@@ -12,7 +12,7 @@ IsStreamAmong s (t ∷ ts) = (s ≡ t) ⊎ IsStreamAmong s ts
 pub record IsFoundStream (c : PlainCatalog) (n : List ℕ) (s : PlainStream) : Type 0 where
   pub among : IsStreamAmong s c.streams
   pub name : stream_name s ≡ n
-  pub sound : IsStream (facts_of c) s
+  pub sound : IsStreamSound (facts_of c) s
 
 abbrev pub StreamsFound : Type 0
 StreamsFound = (c : PlainCatalog) (n : List ℕ) (s : PlainStream) → IsSoundCatalog c → stream_named n c.streams ≡ Some s → IsFoundStream c n s

@@ -15,7 +15,7 @@ use Rattle.stream_catalog.specs.Ways.{Way}
 use Rattle.stream_catalog.specs.Lists.{when, on_found, with_found, first_refusal, updated, inserted, without, index_name, facts_named, index_named}
 use Rattle.stream_catalog.specs.Limits.{most_indices}
 use Rattle.stream_catalog.specs.Names.{is_taken}
-use Rattle.stream_catalog.specs.Streams.{written_by}
+use Rattle.stream_catalog.specs.Streams.{writer_of}
 
 -- ---- an index takes no documents any more, also where it took none
 
@@ -32,7 +32,7 @@ blocked_in c n = record c { indices = updated index_name n blocked_index c.indic
 
 -- a stream's write index is neither folded nor deleted
 abbrev pub write_fault : PlainFacts → List ℕ → Option Refusal
-write_fault f n = option_map (λ s. IsWriteIndex s.facts.name n) (written_by f n)
+write_fault f n = option_map (λ s. IsWriteIndex s.facts.name n) (writer_of f n)
 
 abbrev pub downsample_refusal : PlainFacts → List ℕ → List ℕ → Interval → Option Refusal
 downsample_refusal f source target by = on_found (facts_named source f.indices) (NoSuchName source) (λ i. first_refusal (

@@ -7,8 +7,8 @@ use Rattle.stream_catalog.specs.declared.facts.HeldIndex.{HeldIndex}
 use Rattle.stream_catalog.specs.declared.facts.StreamFacts.{StreamFacts}
 use Rattle.stream_catalog.specs.declared.facts.TaskFacts.{TaskFacts}
 
--- An index. In a plain machine the rows are those of the documents that it took, in the order in which they came; in what is
--- seen of it, those that answer.
+-- An index. In a plain machine the rows are those of the documents that it took, in the order in which they came, behind those of
+-- the records that it was made from, which may be folded; in what is seen of it, those that answer.
 pub record PlainIndex : Type 0 where
   pub facts : HeldIndex
   pub rows : List Row

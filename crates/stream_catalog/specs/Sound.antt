@@ -105,7 +105,7 @@ IsLife None = Unit {0}
 IsLife (Some life) = IsLifecycle life
 
 -- a stream has a template and one or more members of it, whose windows stand one behind the other
-pub record IsStream (f : PlainFacts) (s : PlainStream) : Type 0 where
+pub record IsStreamSound (f : PlainFacts) (s : PlainStream) : Type 0 where
   pub generation : s.facts.generation ≤ greatest_generation
   pub life : IsLife s.life
   pub template : IsThere (template_named s.facts.template f.templates)
@@ -153,7 +153,7 @@ AllAgree xs ys = Each (λ x. Each (Agrees x) ys) xs
 pub record AreFactsSound (f : PlainFacts) : Type 0 where
   pub templates : Each IsTemplate f.templates
   pub indices : Each (IsHeld f) f.indices
-  pub streams : Each (IsStream f) f.streams
+  pub streams : Each (IsStreamSound f) f.streams
   pub tasks : Each (λ t. IsTaskOf t.by t.rises (facts_named t.index f.indices)) f.tasks
   pub indices_agree : AllAgree (map form_of f.indices) (map form_of f.indices)
   pub templates_agree : AllAgree (map form_of f.indices) (map template_form f.templates)

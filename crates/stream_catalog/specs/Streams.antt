@@ -131,8 +131,8 @@ abbrev pub is_write : PlainStream → List ℕ → Bool
 is_write s n = bytes_eq (write_name s) n
 
 -- the stream that has an index as its write index
-abbrev pub written_by : PlainFacts → List ℕ → Option PlainStream
-written_by f n = find (λ s. is_write s n) f.streams
+abbrev pub writer_of : PlainFacts → List ℕ → Option PlainStream
+writer_of f n = find (λ s. is_write s n) f.streams
 
 abbrev pub next_name : PlainStream → ℤ → List ℕ
 next_name s now = backing_name s.facts.name now (s.facts.generation + 1)

@@ -13,7 +13,7 @@ use Rattle.tsds_service.specs.Bulk.{items_of}
 use Rattle.tsds_service.specs.Causes.{Cause}
 use Rattle.tsds_service.specs.GivenUp.{with_first, done_up_to, given_up}
 use Rattle.tsds_service.specs.GivenUpLaws.{GivenUpRefine, GivenUpStand, GivenUpKeepSound, GivenUpKeepSeen}
-use Rattle.tsds_service.specs.Laws.{SeenAgain}
+use Rattle.tsds_service.specs.Laws.{MachinesSeenAgain}
 use Rattle.tsds_service.specs.Machine.{Machine, see, IsSound, IsSeen}
 use Rattle.tsds_service.proofs.CatalogLaws.{CatalogLaws, SoundLaws}
 use Rattle.tsds_service.proofs.ItemLemmas.{after_items-see}
@@ -93,6 +93,6 @@ pub given_up_keep_sound : SoundLaws → GivenUpKeepSound
 given_up_keep_sound laws m message now k sound is_asked instant =
     done-sound laws (record m { now = now }) (record { catalog = sound.catalog; now = instant; names = sound.names }) k message is_asked
 
-pub given_up_keep_seen : CatalogLaws → SoundLaws → SeenAgain → GivenUpKeepSeen
+pub given_up_keep_seen : CatalogLaws → SoundLaws → MachinesSeenAgain → GivenUpKeepSeen
 given_up_keep_seen laws kept again m message now k seen is_asked instant =
     subst IsSeen (sym (given_up_stand laws m message now k seen)) (again (given_up plain_way m message now k) (given_up_keep_sound kept m message now k seen.sound is_asked instant))

@@ -1,5 +1,5 @@
 -- Items come to the same on both sides.
-use Rattle.std.specs.Prelude.{◌≡◌, ℕ, ℤ, pos, Bool, true, false, nat_le, bytes_eq, List, [], ◌∷◌, length, Option, Some, None, Result, Ok, Err, option_and_then, unwrap_or, if◌then◌else◌}
+use Rattle.std.specs.Prelude.{◌≡◌, ℕ, ℤ, Bool, true, false, nat_le, bytes_eq, List, [], ◌∷◌, length, Option, Some, None, Result, Ok, Err, option_and_then, unwrap_or, if◌then◌else◌}
 use Rattle.std.specs.Option.{option_map}
 use Rattle.std.proofs.Common.{refl, ap, ◌∙◌, sym, subst}
 use Rattle.std.proofs.lemmas.Bool.{both_ways}
@@ -21,10 +21,10 @@ use Rattle.stream_catalog.specs.Ways.{shown_by, plain_way, seen_way, see_index, 
 use Rattle.stream_catalog.specs.declared.answers.PickError.{PickError}
 use Rattle.stream_catalog.specs.declared.answers.PickError.TheVariants.{NoWindow, Blocked}
 use Rattle.synthetic_source.specs.Document.{document_cells}
-use Rattle.synthetic_source.specs.Faults.{time_fault, time_of}
+use Rattle.synthetic_source.specs.Faults.{time_of}
 use Rattle.synthetic_source.specs.declared.errors.DocKind.{DocKind}
 use Rattle.time_text.specs.declared.intervals.Interval.{Interval}
-use Rattle.tsds_service.specs.Bulk.{Outcome, taken, barred, key_of, by_place, by_key, by_cells, by_index, by_pick, by_time, by_stream, by_action, item_outcome, after_outcome, after_item, outcomes_of, after_items}
+use Rattle.tsds_service.specs.Bulk.{Outcome, taken, barred, key_of, by_place, by_key, by_cells, by_index, by_pick, by_time, by_document, by_stream, by_action, item_outcome, after_outcome, after_item, outcomes_of, after_items}
 use Rattle.tsds_service.specs.Causes.{ItemCause, conflict, full, blocked, outside, no_stream, no_object}
 use Rattle.tsds_service.proofs.CatalogLaws.{CatalogLaws}
 use Rattle.tsds_service.proofs.PickLemmas.{picked_open}
@@ -96,25 +96,20 @@ module _ (laws : CatalogLaws) where
         by_found None found = refl
         by_found (Some i) found = index-see n i time d (each_named ShowsPuts n c.indices i found shows) (picked_open c s time n i picked found)
 
-    time-see : (s : PlainStream) (d : Data) (fault : Option DocKind) →
-        by_time fault (unwrap_or (time_of d) (pos 0)) (λ time. by_pick (see_catalog c) s time d (picked_by (facts_of (see_catalog c)) s time))
-        ≡ by_time fault (unwrap_or (time_of d) (pos 0)) (λ time. by_pick c s time d (picked_by (facts_of c) s time))
-    time-see s d (Some kind) = refl
-    time-see s d None =
-        let time = unwrap_or (time_of d) (pos 0) in
+    time-see : (s : PlainStream) (d : Data) (time : Option ℤ) → by_time (see_catalog c) s d time ≡ by_time c s d time
+    time-see s d None = refl
+    time-see s d (Some time) =
         ap (λ f. by_pick (see_catalog c) s time d (picked_by f s time)) (laws.facts c) ∙ pick-see s time d (picked_by (facts_of c) s time) refl
 
     stream-see : (name : List ℕ) (source : Option (List ℕ)) → by_stream (see_catalog c) name source ≡ by_stream c name source
     stream-see name source = by_found (stream_named name c.streams) (option_and_then object_of source)
       where
         by_found : (o : Option PlainStream) (tree : Option Data) →
-            with_found o (barred (no_stream name)) (λ s. with_found tree (barred no_object) (λ d.
-            by_time (time_fault d) (unwrap_or (time_of d) (pos 0)) (λ time. by_pick (see_catalog c) s time d (picked_by (facts_of (see_catalog c)) s time))))
-            ≡ with_found o (barred (no_stream name)) (λ s. with_found tree (barred no_object) (λ d.
-            by_time (time_fault d) (unwrap_or (time_of d) (pos 0)) (λ time. by_pick c s time d (picked_by (facts_of c) s time))))
+            with_found o (barred (no_stream name)) (λ s. with_found tree (barred no_object) (by_document (see_catalog c) s))
+            ≡ with_found o (barred (no_stream name)) (λ s. with_found tree (barred no_object) (by_document c s))
         by_found None tree = refl
         by_found (Some s) None = refl
-        by_found (Some s) (Some d) = time-see s d (time_fault d)
+        by_found (Some s) (Some d) = time-see s d (time_of d)
 
     action-see : (action : Action) (name : List ℕ) (source : Option (List ℕ)) → by_action (see_catalog c) action name source ≡ by_action c action name source
     action-see Create name source = stream-see name source
@@ -160,16 +155,15 @@ module _ (laws : CatalogLaws) where
     stream_found : (name : List ℕ) (source : Option (List ℕ)) → by_stream c name source ≡ taken n row → FindsPlace c n row
     stream_found name source is = by_found (stream_named name c.streams) (option_and_then object_of source) is
       where
-        by_fault : (s : PlainStream) (d : Data) (fault : Option DocKind) → by_time fault (unwrap_or (time_of d) (pos 0)) (λ time. by_pick c s time d (picked_by (facts_of c) s time)) ≡ taken n row → FindsPlace c n row
-        by_fault s d (Some kind) is = absurd (barred_not is)
-        by_fault s d None is = pick_found s (unwrap_or (time_of d) (pos 0)) d (picked_by (facts_of c) s (unwrap_or (time_of d) (pos 0))) refl is
+        of_time : (s : PlainStream) (d : Data) (time : Option ℤ) → by_time c s d time ≡ taken n row → FindsPlace c n row
+        of_time s d None is = absurd (barred_not is)
+        of_time s d (Some time) is = pick_found s time d (picked_by (facts_of c) s time) refl is
 
         by_found : (o : Option PlainStream) (tree : Option Data) →
-            with_found o (barred (no_stream name)) (λ s. with_found tree (barred no_object) (λ d.
-            by_time (time_fault d) (unwrap_or (time_of d) (pos 0)) (λ time. by_pick c s time d (picked_by (facts_of c) s time)))) ≡ taken n row → FindsPlace c n row
+            with_found o (barred (no_stream name)) (λ s. with_found tree (barred no_object) (by_document c s)) ≡ taken n row → FindsPlace c n row
         by_found None tree is = absurd (barred_not is)
         by_found (Some s) None is = absurd (barred_not is)
-        by_found (Some s) (Some d) is = by_fault s d (time_fault d) is
+        by_found (Some s) (Some d) is = of_time s d (time_of d) is
 
     action_found : (action : Action) (name : List ℕ) (source : Option (List ℕ)) → by_action c action name source ≡ taken n row → FindsPlace c n row
     action_found Create name source is = stream_found name source is

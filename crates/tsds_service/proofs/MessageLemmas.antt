@@ -2,17 +2,17 @@
 use Rattle.std.specs.Prelude.{◌≡◌}
 use Rattle.std.proofs.Common.{ap, ◌∙◌, sym, subst}
 use Rattle.stream_catalog.specs.Ways.{plain_way, seen_way}
-use Rattle.tsds_service.specs.Laws.{SeenAgain, MessagesRefine}
+use Rattle.tsds_service.specs.Laws.{MachinesSeenAgain, MessagesRefine}
 use Rattle.tsds_service.specs.Machine.{Machine, IsSeen}
 use Rattle.tsds_service.specs.MessageLaws.{MessagesStand, RunsBegin}
 use Rattle.tsds_service.specs.Messages.{Told, see_told, message_told}
 
-pub messages_stand : SeenAgain → MessagesRefine → MessagesStand
-messages_stand again refine asking m now method target body seen is_now short =
-    let alike = refine asking m now method target body seen.sound is_now short in
-    let plain = message_told asking plain_way m now method target body in
-    let told : message_told asking seen_way m now method target body ≡ see_told plain =
-    ap (λ (n : Machine). message_told asking seen_way n now method target body) (sym seen.again) ∙ alike.told in
+pub messages_stand : MachinesSeenAgain → MessagesRefine → MessagesStand
+messages_stand again refine searching m now method target body seen is_now short =
+    let alike = refine searching m now method target body seen.sound is_now short in
+    let plain = message_told searching plain_way m now method target body in
+    let told : message_told searching seen_way m now method target body ≡ see_told plain =
+    ap (λ (n : Machine). message_told searching seen_way n now method target body) (sym seen.again) ∙ alike.told in
     record {
       told = told;
       stepped = subst (λ (t : Told). IsSeen t.stepped) (sym told) (again plain.stepped alike.stepped);

@@ -28,12 +28,12 @@ use Rattle.tsds_service.specs.Bodies.{fixed_interval_of, moves_of}
 use Rattle.tsds_service.specs.Bulk.{items_of, after_items}
 use Rattle.tsds_service.specs.Causes as cause
 use Rattle.tsds_service.specs.Causes.{Cause, refused}
-use Rattle.tsds_service.specs.Laws.{SeenAgain, StepsStand, StepsKeepSound, StepsKeepSeen}
+use Rattle.tsds_service.specs.Laws.{MachinesSeenAgain, StepsStand, StepsKeepSound, StepsKeepSeen}
 use Rattle.tsds_service.specs.Machine.{Machine, IsSound, IsSeen}
-use Rattle.tsds_service.specs.Questions.{Asking}
+use Rattle.tsds_service.specs.Questions.{Searching}
 use Rattle.tsds_service.specs.Replies.{ack, stream_reply, rolled_reply, blocked_reply}
 use Rattle.tsds_service.specs.Requests as spec
-use Rattle.tsds_service.specs.Requests.{Stepped, About, told, changed, unless, caused, about_name, about_index, about_fold, fold_names_refusal, write_index, step_of, step}
+use Rattle.tsds_service.specs.Requests.{Stepped, About, unchanged, changed, unless, caused, about_name, about_index, about_fold, fold_names_refusal, write_index, step_of, step}
 use Rattle.tsds_service.specs.declared.reply.Reply.{Reply}
 use Rattle.tsds_service.proofs.CatalogLaws.{SoundLaws}
 use Rattle.tsds_service.proofs.SourceLemmas.{GivesWithin, items_within}
@@ -68,20 +68,20 @@ module _ (laws : SoundLaws) (m : Machine) (sound : IsSound m) where
   put_lifecycle-sound : (name : List ℕ) (body : Data) → IsSound (spec.put_lifecycle m name body).machine
   put_lifecycle-sound name body =
       unless-sound (caused (about_name name) (named_refusal (facts_of m.catalog) name)) m
-      (with_found (lifecycle_of body) (told m (refused cause.bad_body)) (λ life. changed m ack (life_set m.catalog name life))) sound
-      (λ none. found-sound (lifecycle_of body) (told m (refused cause.bad_body)) (λ life. changed m ack (life_set m.catalog name life)) sound
+      (with_found (lifecycle_of body) (unchanged m (refused cause.bad_body)) (λ life. changed m ack (life_set m.catalog name life))) sound
+      (λ none. found-sound (lifecycle_of body) (unchanged m (refused cause.bad_body)) (λ life. changed m ack (life_set m.catalog name life)) sound
       (λ life is. left (life_set m.catalog name life) (laws.lives m.catalog name life (bodies_are_lifecycles body life is) sound.catalog) (laws.names.lives m.catalog name life sound.names)))
 
   downsample-sound : (source target : List ℕ) (by : Option Interval) → IsTrue (is_target_name target) → IsSound (spec.downsample_by plain_way m source target by).machine
   downsample-sound source target None named =
-      unless-sound (caused (about_name target) (fold_names_refusal (facts_of m.catalog) source target)) m (told m (refused cause.bad_body)) sound (λ none. sound)
+      unless-sound (caused (about_name target) (fold_names_refusal (facts_of m.catalog) source target)) m (unchanged m (refused cause.bad_body)) sound (λ none. sound)
   downsample-sound source target (Some by) named =
       by_change (about_fold (facts_of m.catalog) source target by) (downsample_refusal (facts_of m.catalog) source target by) ack (downsampled plain_way m.catalog source target by)
       (λ none. laws.downsamples m.catalog source target by sound.catalog none) (λ none. laws.names.downsamples plain_way m.catalog source target by named sound.names)
 
   modify-sound : (body : Data) → IsSound (spec.modify m body).machine
   modify-sound body =
-      found-sound (moves_of body) (told m (refused cause.bad_body))
+      found-sound (moves_of body) (unchanged m (refused cause.bad_body))
       (λ moves. unless (caused (about_name []) (moves_refusal (facts_of m.catalog) moves)) m (changed m ack (moved_all m.catalog moves))) sound
       (λ moves is. by_change (about_name []) (moves_refusal (facts_of m.catalog) moves) ack (moved_all m.catalog moves) (λ none. laws.moves m.catalog moves sound.catalog none)
       (λ none. laws.names.moves m.catalog moves sound.names))
@@ -89,7 +89,7 @@ module _ (laws : SoundLaws) (m : Machine) (sound : IsSound m) where
   flush-sound : IsSound (spec.flush m).machine
   flush-sound = by_test m.kept
     where
-      by_test : (b : Bool) → IsSound (if b then record { reply = ack; machine = m; wrote = true } else told m (refused cause.no_data)).machine
+      by_test : (b : Bool) → IsSound (if b then record { reply = ack; machine = m; wrote = true } else unchanged m (refused cause.no_data)).machine
       by_test true = sound
       by_test false = sound
 
@@ -105,42 +105,42 @@ module _ (laws : SoundLaws) (m : Machine) (sound : IsSound m) where
   bulk-sound (Ok items) short =
       left (after_items plain_way m.catalog items) (items_sound laws.held laws.cells laws.puts m.catalog items sound.catalog short) (items_named laws.names m.catalog items sound.names)
 
-  pub step_of-sound : (asking : Asking) (message : Message) → IsAsked message → IsSound (step_of asking plain_way m message).machine
-  step_of-sound asking (asked.put_template name body) is_asked = put_template-sound name body (refusal_of body) refl is_asked.0
-  step_of-sound asking (asked.put_stream name) is_asked =
+  pub step_of-sound : (searching : Searching) (message : Message) → IsAsked message → IsSound (step_of searching plain_way m message).machine
+  step_of-sound searching (asked.put_template name body) is_asked = put_template-sound name body (refusal_of body) refl is_asked.0
+  step_of-sound searching (asked.put_stream name) is_asked =
       by_change (about_name name) (create_refusal (facts_of m.catalog) name m.now) ack (created m.catalog name m.now) (laws.creations m.catalog name m.now sound.now sound.catalog)
       (λ none. laws.names.creations m.catalog name m.now is_asked sound.now sound.names)
-  step_of-sound asking (asked.get_stream name) is_asked =
-      found-sound (stream_named name m.catalog.streams) (told m (refused (cause.no_such_name name))) (λ s. told m (stream_reply (facts_of m.catalog) s)) sound (λ s is. sound)
-  step_of-sound asking (asked.delete_stream name) is_asked =
+  step_of-sound searching (asked.get_stream name) is_asked =
+      found-sound (stream_named name m.catalog.streams) (unchanged m (refused (cause.no_such_name name))) (λ s. unchanged m (stream_reply (facts_of m.catalog) s)) sound (λ s is. sound)
+  step_of-sound searching (asked.delete_stream name) is_asked =
       by_change (about_name name) (named_refusal (facts_of m.catalog) name) ack (stream_deleted m.catalog name) (λ none. laws.stream_deletions m.catalog name sound.catalog)
       (λ none. laws.names.stream_deletions m.catalog name sound.names)
-  step_of-sound asking (asked.bulk path body) is_asked = bulk-sound (items_of path body) (items_within path body longest_list is_asked.1)
-  step_of-sound asking (asked.rollover name) is_asked =
+  step_of-sound searching (asked.bulk path body) is_asked = bulk-sound (items_of path body) (items_within path body longest_list is_asked.1)
+  step_of-sound searching (asked.rollover name) is_asked =
       by_change (about_index (write_index (facts_of m.catalog) name)) (rollover_refusal (facts_of m.catalog) name m.now) (rolled_reply (rolled_names (facts_of m.catalog) name m.now))
       (rolled_over m.catalog name m.now) (laws.rollovers m.catalog name m.now sound.now sound.catalog) (λ none. laws.names.rollovers m.catalog name m.now sound.now none sound.names)
-  step_of-sound asking (asked.block n) is_asked =
+  step_of-sound searching (asked.block n) is_asked =
       by_change (about_index n) (block_refusal (facts_of m.catalog) n) (blocked_reply n) (blocked_in m.catalog n) (λ none. laws.blocks m.catalog n sound.catalog)
       (λ none. laws.names.blocks m.catalog n sound.names)
-  step_of-sound asking (asked.downsample source target body) is_asked = downsample-sound source target (fixed_interval_of body) is_asked.1.0
-  step_of-sound asking (asked.modify body) is_asked = modify-sound body
-  step_of-sound asking (asked.delete_index n) is_asked =
+  step_of-sound searching (asked.downsample source target body) is_asked = downsample-sound source target (fixed_interval_of body) is_asked.1.0
+  step_of-sound searching (asked.modify body) is_asked = modify-sound body
+  step_of-sound searching (asked.delete_index n) is_asked =
       by_change (about_index n) (delete_refusal (facts_of m.catalog) n) ack (index_deleted m.catalog n) (laws.deletions m.catalog n sound.catalog)
       (λ none. laws.names.deletions m.catalog n sound.names)
-  step_of-sound asking (asked.put_lifecycle name body) is_asked = put_lifecycle-sound name body
-  step_of-sound asking asked.run_lifecycle is_asked = left (lifecycle_run m.catalog m.now).catalog (laws.runs m.catalog m.now sound.catalog) (laws.names.runs m.catalog m.now sound.names)
-  step_of-sound asking asked.tasks is_asked = sound
-  step_of-sound asking (asked.search_rows name body) is_asked = sound
-  step_of-sound asking (asked.count_rows name body) is_asked = sound
-  step_of-sound asking (asked.get_doc n id) is_asked = sound
-  step_of-sound asking asked.flush is_asked = flush-sound
+  step_of-sound searching (asked.put_lifecycle name body) is_asked = put_lifecycle-sound name body
+  step_of-sound searching asked.run_lifecycle is_asked = left (lifecycle_run m.catalog m.now).catalog (laws.runs m.catalog m.now sound.catalog) (laws.names.runs m.catalog m.now sound.names)
+  step_of-sound searching asked.tasks is_asked = sound
+  step_of-sound searching (asked.search_rows name body) is_asked = sound
+  step_of-sound searching (asked.count_rows name body) is_asked = sound
+  step_of-sound searching (asked.get_doc n id) is_asked = sound
+  step_of-sound searching asked.flush is_asked = flush-sound
 
 pub steps_keep_sound : SoundLaws → StepsKeepSound
 unfolding step
-steps_keep_sound laws asking m message now sound is_asked instant = step_of-sound laws (record m { now = now })
-    (record { catalog = sound.catalog; now = instant; names = sound.names }) asking message is_asked
+steps_keep_sound laws searching m message now sound is_asked instant = step_of-sound laws (record m { now = now })
+    (record { catalog = sound.catalog; now = instant; names = sound.names }) searching message is_asked
 
-pub steps_keep_seen : SoundLaws → SeenAgain → StepsStand → StepsKeepSeen
-steps_keep_seen laws again stand asking m message now seen is_asked instant =
-    subst (λ (s : Stepped). IsSeen s.machine) (sym (stand asking m message now seen))
-    (again (step asking plain_way m message now).machine (steps_keep_sound laws asking m message now seen.sound is_asked instant))
+pub steps_keep_seen : SoundLaws → MachinesSeenAgain → StepsStand → StepsKeepSeen
+steps_keep_seen laws again stand searching m message now seen is_asked instant =
+    subst (λ (s : Stepped). IsSeen s.machine) (sym (stand searching m message now seen))
+    (again (step searching plain_way m message now).machine (steps_keep_sound laws searching m message now seen.sound is_asked instant))

@@ -32,10 +32,10 @@ use Rattle.tsds_service.specs.Causes as cause
 use Rattle.tsds_service.specs.Causes.{Cause, refused}
 use Rattle.tsds_service.specs.Laws.{StepsRefine, StepsStand, UnitsRefine, UnitsStand}
 use Rattle.tsds_service.specs.Machine.{Machine, see, unit}
-use Rattle.tsds_service.specs.Questions.{Asking, facts_in, samples_of, members_of, target_of, get_reply}
+use Rattle.tsds_service.specs.Questions.{Searching, facts_in, samples_of, members_of, target_of, get_reply}
 use Rattle.tsds_service.specs.Replies.{ack, stream_reply, rolled_reply, blocked_reply, ran_reply, series_count, task_tree, tasks_listed}
 use Rattle.tsds_service.specs.Requests as spec
-use Rattle.tsds_service.specs.Requests.{Stepped, see_stepped, About, told, changed, unless, caused, about_name, about_index, about_fold, fold_names_refusal, write_index, step_of, step}
+use Rattle.tsds_service.specs.Requests.{Stepped, see_stepped, About, unchanged, changed, unless, caused, about_name, about_index, about_fold, fold_names_refusal, write_index, step_of, step}
 use Rattle.tsds_service.specs.declared.reply.Reply.{Reply}
 use Rattle.tsds_service.proofs.CatalogLaws.{CatalogLaws}
 use Rattle.tsds_service.proofs.ItemLemmas.{outcomes-see, after_items-see}
@@ -47,8 +47,8 @@ unless-see : (o : Option Cause) (m : Machine) (seen plain : Stepped) → (o ≡ 
 unless-see None m seen plain same = same refl
 unless-see (Some c) m seen plain same = refl
 
-told-see : (m : Machine) (seen plain : Reply) → seen ≡ plain → told (see m) seen ≡ see_stepped (told m plain)
-told-see m seen plain same = ap (told (see m)) same
+unchanged-see : (m : Machine) (seen plain : Reply) → seen ≡ plain → unchanged (see m) seen ≡ see_stepped (unchanged m plain)
+unchanged-see m seen plain same = ap (unchanged (see m)) same
 
 pub caused_none : (a : About) (refusal : Option Refusal) → caused a refusal ≡ None → refusal ≡ None
 caused_none a None is = refl
@@ -84,10 +84,10 @@ module _ (laws : CatalogLaws) (m : Machine) where
   get_stream-see : (name : List ℕ) → spec.get_stream (see m) name ≡ see_stepped (spec.get_stream m name)
   get_stream-see name = by_found (stream_named name m.catalog.streams)
     where
-      by_found : (o : Option PlainStream) → with_found o (told (see m) (refused (cause.no_such_name name))) (λ s. told (see m) (stream_reply (facts_of (see_catalog m.catalog)) s))
-          ≡ see_stepped (with_found o (told m (refused (cause.no_such_name name))) (λ s. told m (stream_reply (facts_of m.catalog) s)))
+      by_found : (o : Option PlainStream) → with_found o (unchanged (see m) (refused (cause.no_such_name name))) (λ s. unchanged (see m) (stream_reply (facts_of (see_catalog m.catalog)) s))
+          ≡ see_stepped (with_found o (unchanged m (refused (cause.no_such_name name))) (λ s. unchanged m (stream_reply (facts_of m.catalog) s)))
       by_found None = refl
-      by_found (Some s) = ap (λ f. told (see m) (stream_reply f s)) (laws.facts m.catalog)
+      by_found (Some s) = ap (λ f. unchanged (see m) (stream_reply f s)) (laws.facts m.catalog)
 
   rollover-see : (name : List ℕ) → spec.rollover (see m) name ≡ see_stepped (spec.rollover m name)
   rollover-see name =
@@ -97,19 +97,19 @@ module _ (laws : CatalogLaws) (m : Machine) where
   put_lifecycle-see name body = by_life (lifecycle_of body)
     where
       by_life : (o : Option Lifecycle) →
-          unless (caused (about_name name) (named_refusal (facts_of (see_catalog m.catalog)) name)) (see m) (with_found o (told (see m) (refused cause.bad_body)) (λ life. changed (see m) ack (life_set (see_catalog m.catalog) name life)))
-          ≡ see_stepped (unless (caused (about_name name) (named_refusal (facts_of m.catalog) name)) m (with_found o (told m (refused cause.bad_body)) (λ life. changed m ack (life_set m.catalog name life))))
+          unless (caused (about_name name) (named_refusal (facts_of (see_catalog m.catalog)) name)) (see m) (with_found o (unchanged (see m) (refused cause.bad_body)) (λ life. changed (see m) ack (life_set (see_catalog m.catalog) name life)))
+          ≡ see_stepped (unless (caused (about_name name) (named_refusal (facts_of m.catalog) name)) m (with_found o (unchanged m (refused cause.bad_body)) (λ life. changed m ack (life_set m.catalog name life))))
       by_life None =
-          ap (λ f. unless (caused (about_name name) (named_refusal f name)) (see m) (told (see m) (refused cause.bad_body))) (laws.facts m.catalog)
-          ∙ unless-see (caused (about_name name) (named_refusal (facts_of m.catalog) name)) m (told (see m) (refused cause.bad_body)) (told m (refused cause.bad_body)) (λ none. refl)
+          ap (λ f. unless (caused (about_name name) (named_refusal f name)) (see m) (unchanged (see m) (refused cause.bad_body))) (laws.facts m.catalog)
+          ∙ unless-see (caused (about_name name) (named_refusal (facts_of m.catalog) name)) m (unchanged (see m) (refused cause.bad_body)) (unchanged m (refused cause.bad_body)) (λ none. refl)
       by_life (Some life) = by_change (λ f. caused (about_name name) (named_refusal f name)) (λ f. ack) (λ c. life_set c name life) (laws.changes.life_set name life m.catalog)
 
   -- ---- indices
 
   downsample-see : IsSoundCatalog m.catalog → (source target : List ℕ) (by : Option Interval) → spec.downsample_by seen_way (see m) source target by ≡ see_stepped (spec.downsample_by plain_way m source target by)
   downsample-see sound source target None =
-      ap (λ f. unless (caused (about_name target) (fold_names_refusal f source target)) (see m) (told (see m) (refused cause.bad_body))) (laws.facts m.catalog)
-      ∙ unless-see (caused (about_name target) (fold_names_refusal (facts_of m.catalog) source target)) m (told (see m) (refused cause.bad_body)) (told m (refused cause.bad_body)) (λ none. refl)
+      ap (λ f. unless (caused (about_name target) (fold_names_refusal f source target)) (see m) (unchanged (see m) (refused cause.bad_body))) (laws.facts m.catalog)
+      ∙ unless-see (caused (about_name target) (fold_names_refusal (facts_of m.catalog) source target)) m (unchanged (see m) (refused cause.bad_body)) (unchanged m (refused cause.bad_body)) (λ none. refl)
   downsample-see sound source target (Some by) =
       by_facts (λ f. caused (about_fold f source target by) (downsample_refusal f source target by)) (λ f. ack) (λ c. downsampled plain_way c source target by) (λ c. downsampled seen_way c source target by)
       (λ none. laws.downsamples m.catalog source target by sound (caused_none (about_fold (facts_of m.catalog) source target by) (downsample_refusal (facts_of m.catalog) source target by) none))
@@ -118,8 +118,8 @@ module _ (laws : CatalogLaws) (m : Machine) where
   modify-see body = by_moves (moves_of body)
     where
       by_moves : (o : Option (List Move)) →
-          with_found o (told (see m) (refused cause.bad_body)) (λ moves. unless (caused (about_name []) (moves_refusal (facts_of (see_catalog m.catalog)) moves)) (see m) (changed (see m) ack (moved_all (see_catalog m.catalog) moves)))
-          ≡ see_stepped (with_found o (told m (refused cause.bad_body)) (λ moves. unless (caused (about_name []) (moves_refusal (facts_of m.catalog) moves)) m (changed m ack (moved_all m.catalog moves))))
+          with_found o (unchanged (see m) (refused cause.bad_body)) (λ moves. unless (caused (about_name []) (moves_refusal (facts_of (see_catalog m.catalog)) moves)) (see m) (changed (see m) ack (moved_all (see_catalog m.catalog) moves)))
+          ≡ see_stepped (with_found o (unchanged m (refused cause.bad_body)) (λ moves. unless (caused (about_name []) (moves_refusal (facts_of m.catalog) moves)) m (changed m ack (moved_all m.catalog moves))))
       by_moves None = refl
       by_moves (Some moves) = by_change (λ f. caused (about_name []) (moves_refusal f moves)) (λ f. ack) (λ c. moved_all c moves) (laws.changes.moved moves m.catalog)
 
@@ -194,49 +194,49 @@ module _ (laws : CatalogLaws) (m : Machine) where
   flush-see : spec.flush (see m) ≡ see_stepped (spec.flush m)
   flush-see = by_test m.kept
     where
-      by_test : (b : Bool) → (if b then record { reply = ack; machine = see m; wrote = true } else told (see m) (refused cause.no_data))
-          ≡ see_stepped (if b then record { reply = ack; machine = m; wrote = true } else told m (refused cause.no_data))
+      by_test : (b : Bool) → (if b then record { reply = ack; machine = see m; wrote = true } else unchanged (see m) (refused cause.no_data))
+          ≡ see_stepped (if b then record { reply = ack; machine = m; wrote = true } else unchanged m (refused cause.no_data))
       by_test true = refl
       by_test false = refl
 
   -- ---- all requests
 
-  pub step_of-see : (asking : Asking) (message : Message) → IsSoundCatalog m.catalog → step_of asking seen_way (see m) message ≡ see_stepped (step_of asking plain_way m message)
-  step_of-see asking (asked.put_template name body) sound = put_template-see name body (refusal_of body)
-  step_of-see asking (asked.put_stream name) sound =
+  pub step_of-see : (searching : Searching) (message : Message) → IsSoundCatalog m.catalog → step_of searching seen_way (see m) message ≡ see_stepped (step_of searching plain_way m message)
+  step_of-see searching (asked.put_template name body) sound = put_template-see name body (refusal_of body)
+  step_of-see searching (asked.put_stream name) sound =
       by_change (λ f. caused (about_name name) (create_refusal f name m.now)) (λ f. ack) (λ c. created c name m.now) (laws.changes.created name m.now m.catalog)
-  step_of-see asking (asked.get_stream name) sound = get_stream-see name
-  step_of-see asking (asked.delete_stream name) sound =
+  step_of-see searching (asked.get_stream name) sound = get_stream-see name
+  step_of-see searching (asked.delete_stream name) sound =
       by_change (λ f. caused (about_name name) (named_refusal f name)) (λ f. ack) (λ c. stream_deleted c name) (laws.changes.stream_deleted name m.catalog)
-  step_of-see asking (asked.bulk path body) sound = bulk-see sound (items_of path body)
-  step_of-see asking (asked.rollover name) sound = rollover-see name
-  step_of-see asking (asked.block n) sound =
+  step_of-see searching (asked.bulk path body) sound = bulk-see sound (items_of path body)
+  step_of-see searching (asked.rollover name) sound = rollover-see name
+  step_of-see searching (asked.block n) sound =
       by_change (λ f. caused (about_index n) (block_refusal f n)) (λ f. blocked_reply n) (λ c. blocked_in c n) (laws.changes.blocked n m.catalog)
-  step_of-see asking (asked.downsample source target body) sound = downsample-see sound source target (fixed_interval_of body)
-  step_of-see asking (asked.modify body) sound = modify-see body
-  step_of-see asking (asked.delete_index n) sound =
+  step_of-see searching (asked.downsample source target body) sound = downsample-see sound source target (fixed_interval_of body)
+  step_of-see searching (asked.modify body) sound = modify-see body
+  step_of-see searching (asked.delete_index n) sound =
       by_change (λ f. caused (about_index n) (delete_refusal f n)) (λ f. ack) (λ c. index_deleted c n) (laws.changes.index_deleted n m.catalog)
-  step_of-see asking (asked.put_lifecycle name body) sound = put_lifecycle-see name body
-  step_of-see asking asked.run_lifecycle sound = run-see (lifecycle_run m.catalog m.now) (sym (laws.runs m.catalog m.now))
-  step_of-see asking asked.tasks sound = ap (λ trees. told (see m) (tasks_listed trees)) (tasks-see sound m.catalog.tasks)
-  step_of-see asking (asked.search_rows name body) sound =
-      ap (told (see m)) (asked-see name (λ way is. asking.search m.now (facts_in is) (samples_of way is) body)
-      (λ is. ap (λ fs. asking.search m.now fs (samples_of seen_way (map see_index is)) body) (facts_in-see is) ∙ ap (λ os. asking.search m.now (facts_in is) os body) (samples_stay is)))
-  step_of-see asking (asked.count_rows name body) sound =
-      ap (told (see m)) (asked-see name (λ way is. asking.count m.now (facts_in is) (samples_of way is) body)
-      (λ is. ap (λ fs. asking.count m.now fs (samples_of seen_way (map see_index is)) body) (facts_in-see is) ∙ ap (λ os. asking.count m.now (facts_in is) os body) (samples_stay is)))
-  step_of-see asking (asked.get_doc n id) sound = ap (told (see m)) (document-see n id)
-  step_of-see asking asked.flush sound = flush-see
+  step_of-see searching (asked.put_lifecycle name body) sound = put_lifecycle-see name body
+  step_of-see searching asked.run_lifecycle sound = run-see (lifecycle_run m.catalog m.now) (sym (laws.runs m.catalog m.now))
+  step_of-see searching asked.tasks sound = ap (λ trees. unchanged (see m) (tasks_listed trees)) (tasks-see sound m.catalog.tasks)
+  step_of-see searching (asked.search_rows name body) sound =
+      ap (unchanged (see m)) (asked-see name (λ way is. searching.search m.now (facts_in is) (samples_of way is) body)
+      (λ is. ap (λ fs. searching.search m.now fs (samples_of seen_way (map see_index is)) body) (facts_in-see is) ∙ ap (λ os. searching.search m.now (facts_in is) os body) (samples_stay is)))
+  step_of-see searching (asked.count_rows name body) sound =
+      ap (unchanged (see m)) (asked-see name (λ way is. searching.count m.now (facts_in is) (samples_of way is) body)
+      (λ is. ap (λ fs. searching.count m.now fs (samples_of seen_way (map see_index is)) body) (facts_in-see is) ∙ ap (λ os. searching.count m.now (facts_in is) os body) (samples_stay is)))
+  step_of-see searching (asked.get_doc n id) sound = ap (unchanged (see m)) (document-see n id)
+  step_of-see searching asked.flush sound = flush-see
 
 pub steps_refine : CatalogLaws → StepsRefine
 unfolding step
-steps_refine laws asking m message now sound = step_of-see laws (record m { now = now }) asking message sound.catalog
+steps_refine laws searching m message now sound = step_of-see laws (record m { now = now }) searching message sound.catalog
 
 pub units_refine : CatalogLaws → UnitsRefine
 units_refine laws m sound = ap (λ c. record (see m) { catalog = c }) (sym (laws.units m.catalog sound.catalog))
 
 pub steps_stand : CatalogLaws → StepsStand
-steps_stand laws asking m message now seen = ap (λ x. step asking seen_way x message now) (sym seen.again) ∙ steps_refine laws asking m message now seen.sound
+steps_stand laws searching m message now seen = ap (λ x. step searching seen_way x message now) (sym seen.again) ∙ steps_refine laws searching m message now seen.sound
 
 pub units_stand : CatalogLaws → UnitsStand
 units_stand laws m seen = ap (unit seen_way) (sym seen.again) ∙ units_refine laws m seen.sound

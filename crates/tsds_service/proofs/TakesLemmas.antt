@@ -1,5 +1,5 @@
 -- The index that an item is taken by may take its row.
-use Rattle.std.specs.Prelude.{◌≡◌, ℕ, ℤ, pos, ◌≤◌, ◌≤ℤ◌, ◌<ℤ◌, int_le, int_lt, T, Bool, true, false, List, [], ◌∷◌, length, Option, Some, None, Result, Ok, Err, option_and_then, unwrap_or, if◌then◌else◌}
+use Rattle.std.specs.Prelude.{◌≡◌, ℕ, ℤ, ◌≤◌, ◌≤ℤ◌, ◌<ℤ◌, int_le, int_lt, T, Bool, true, false, List, [], ◌∷◌, length, Option, Some, None, Result, Ok, Err, option_and_then, if◌then◌else◌}
 use Rattle.std.specs.Int.Signed.{lt_z_yes, le_z_yes}
 use Rattle.std.proofs.Common.{refl, ap, ◌∙◌, sym, subst, arith}
 use Rattle.std.proofs.lemmas.Int.{ints}
@@ -34,12 +34,12 @@ use Rattle.stream_catalog.specs.WellNamed.{IsWellNamed}
 use Rattle.stream_catalog.specs.declared.answers.PickError.{PickError}
 use Rattle.stream_catalog.specs.declared.answers.PickError.TheVariants.{NoWindow, Blocked}
 use Rattle.synthetic_source.specs.Document.{document_cells}
-use Rattle.synthetic_source.specs.Faults.{time_fault, time_of}
+use Rattle.synthetic_source.specs.Faults.{time_of}
 use Rattle.synthetic_source.specs.Laws.{CellsOfDocumentsFit}
 use Rattle.synthetic_source.specs.declared.errors.DocKind.{DocKind}
 use Rattle.time_text.specs.Instant.{IsInstant}
 use Rattle.time_text.specs.declared.intervals.Interval.{Interval}
-use Rattle.tsds_service.specs.Bulk.{Outcome, taken, barred, key_of, by_place, by_key, by_cells, by_index, by_pick, by_time, by_stream, by_action, item_outcome, after_outcome, after_item, after_items}
+use Rattle.tsds_service.specs.Bulk.{Outcome, taken, barred, key_of, by_place, by_key, by_cells, by_index, by_pick, by_time, by_document, by_stream, by_action, item_outcome, after_outcome, after_item, after_items}
 use Rattle.tsds_service.specs.CausedLaws.{keys_caused, same_with_causes}
 use Rattle.tsds_service.specs.Causes.{ItemCause, conflict, full, outside, no_stream, no_object, key_cause}
 use Rattle.tsds_service.proofs.ItemLemmas.{barred_not, taken_name, taken_row, some_is, none_not_some}
@@ -122,10 +122,9 @@ module _ (held_there : FoundIsHeld) (fit : CellsOfDocumentsFit) (c : PlainCatalo
       by_found (Some i) found is =
           cells_take m i time d (document_cells i.facts.mapping.schema i.facts.mapping.strict d) few found (picked_open c s time m i picked found) (picked_within c s time m i picked found) refl is
 
-  fault_takes : (s : PlainStream) (d : Data) (fault : Option DocKind) → leaf_count d ≤ longest_list
-      → by_time fault (unwrap_or (time_of d) (pos 0)) (λ time. by_pick c s time d (picked_by (facts_of c) s time)) ≡ taken n row → TakesRow c n row
-  fault_takes s d (Some kind) few is = absurd (barred_not is)
-  fault_takes s d None few is = pick_takes s (unwrap_or (time_of d) (pos 0)) d (picked_by (facts_of c) s (unwrap_or (time_of d) (pos 0))) few refl is
+  time_takes : (s : PlainStream) (d : Data) (time : Option ℤ) → leaf_count d ≤ longest_list → by_time c s d time ≡ taken n row → TakesRow c n row
+  time_takes s d None few is = absurd (barred_not is)
+  time_takes s d (Some time) few is = pick_takes s time d (picked_by (facts_of c) s time) few refl is
 
   -- the tree of a source has few enough leaves
   few_in : (source : List ℕ) (d : Data) → length source ≤ longest_list → object_of source ≡ Some d → leaf_count d ≤ longest_list
@@ -151,11 +150,10 @@ module _ (held_there : FoundIsHeld) (fit : CellsOfDocumentsFit) (c : PlainCatalo
   stream_takes name (Some source) short is = by_found (stream_named name c.streams) (object_of source) refl is
     where
       by_found : (o : Option PlainStream) (tree : Option Data) → object_of source ≡ tree →
-          with_found o (barred (no_stream name)) (λ s. with_found tree (barred no_object) (λ d.
-          by_time (time_fault d) (unwrap_or (time_of d) (pos 0)) (λ time. by_pick c s time d (picked_by (facts_of c) s time)))) ≡ taken n row → TakesRow c n row
+          with_found o (barred (no_stream name)) (λ s. with_found tree (barred no_object) (by_document c s)) ≡ taken n row → TakesRow c n row
       by_found None tree read is = absurd (barred_not is)
       by_found (Some s) None read is = absurd (barred_not is)
-      by_found (Some s) (Some d) read is = fault_takes s d (time_fault d) (few_in source d short read) is
+      by_found (Some s) (Some d) read is = time_takes s d (time_of d) (few_in source d short read) is
 
   action_takes : (action : Action) (name : List ℕ) (source : Option (List ℕ)) → IsSourceWithin longest_list source → by_action c action name source ≡ taken n row → TakesRow c n row
   action_takes Create name source short is = stream_takes name source short is

@@ -9,7 +9,7 @@ use Rattle.row_cells.specs.Joining.{FieldsAgree}
 use Rattle.stream_catalog.specs.Laws.{FoundAgree}
 use Rattle.stream_catalog.specs.Lists.{with_found, stream_named, facts_named, index_named}
 use Rattle.stream_catalog.specs.Plain.{PlainIndex, PlainStream, PlainCatalog, facts_of}
-use Rattle.stream_catalog.specs.Sound.{IsMemberOf, IsStream, IsSoundCatalog}
+use Rattle.stream_catalog.specs.Sound.{IsMemberOf, IsStreamSound, IsSoundCatalog}
 use Rattle.tsds_service.specs.Laws.{TargetsAgree}
 use Rattle.tsds_service.specs.Questions.{members_of, target_of}
 use Rattle.tsds_service.proofs.ItemLemmas.{none_not_some, some_is}
@@ -55,7 +55,7 @@ module _ (agree : FoundAgree) (c : PlainCatalog) (sound : IsSoundCatalog c) wher
       Each-weaker (IsOf c template) (λ i. Each (Agree i) is)
       (λ i one. Each-weaker (IsOf c template) (Agree i) (λ j other. agree c one.name other.name i j sound one.there other.there (one.of ∙ sym other.of)) is are) is are
 
-  of_stream : (s : PlainStream) → IsStream (facts_of c) s → (is : List PlainIndex) → members_of c s ≡ is → Each (λ i. Each (Agree i) is) is
+  of_stream : (s : PlainStream) → IsStreamSound (facts_of c) s → (is : List PlainIndex) → members_of c s ≡ is → Each (λ i. Each (Agree i) is) is
   of_stream s is_stream is same =
       subst (λ js. Each (λ i. Each (Agree i) js) js) same
       (all_agree s.facts.template (members_of c s) (members_are c s.facts.template s.facts.members is_stream.members))
@@ -71,7 +71,7 @@ module _ (agree : FoundAgree) (c : PlainCatalog) (sound : IsSoundCatalog c) wher
       by_stream : (o : Option PlainStream) → stream_named name c.streams ≡ o →
           with_found o (with_found (index_named name c.indices) None (λ i. Some (i ∷ []))) (λ s. Some (members_of c s)) ≡ Some is → Each (λ i. Each (Agree i) is) is
       by_stream None found told = by_index (index_named name c.indices) refl told
-      by_stream (Some s) found told = of_stream s (stream_each (IsStream (facts_of c)) name c.streams s found sound.facts.streams) is (some_is told)
+      by_stream (Some s) found told = of_stream s (stream_each (IsStreamSound (facts_of c)) name c.streams s found sound.facts.streams) is (some_is told)
 
 pub targets_agree : FoundAgree → TargetsAgree
 targets_agree agree m name is sound told = target_agrees agree m.catalog sound.catalog name is told

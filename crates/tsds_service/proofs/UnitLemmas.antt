@@ -1,11 +1,11 @@
 -- Units, and what a machine begins as.
 use Rattle.std.specs.Prelude.{zero, suc, Bool}
 use Rattle.std.proofs.Common.{refl, ap, ◌∙◌, sym, subst, arith}
-use Rattle.stream_catalog.specs.Laws.{NamesKeep, UnitsKeepSound as CatalogUnitsKeepSound}
+use Rattle.stream_catalog.specs.Laws.{NamesKeep, UnitsKeepSound}
 use Rattle.stream_catalog.specs.Plain.{facts_of}
 use Rattle.stream_catalog.specs.Sound.{AreFactsSound}
 use Rattle.stream_catalog.specs.Ways.{plain_way, seen_way}
-use Rattle.tsds_service.specs.Laws.{SeenAgain, EmptyIsSeen, UnitsRefine, UnitsStand, UnitsKeepSound, UnitsKeepSeen, ManyUnitsKeepSound, ManyUnitsKeepSeen, ManyUnitsRefine, ManyUnitsStand}
+use Rattle.tsds_service.specs.Laws.{MachinesSeenAgain, EmptyIsSeen, UnitsRefine, UnitsStand, OneUnitKeepsSound, OneUnitKeepsSeen, ManyUnitsKeepSound, ManyUnitsKeepSeen, ManyUnitsRefine, ManyUnitsStand}
 use Rattle.tsds_service.specs.Machine.{empty_machine, unit, units, IsSeen}
 
 -- ---- the empty machine
@@ -41,25 +41,25 @@ empty_is_seen kept = record {
 
 -- ---- a unit
 
-pub units_keep_sound : CatalogUnitsKeepSound → NamesKeep → UnitsKeepSound
+pub units_keep_sound : UnitsKeepSound → NamesKeep → OneUnitKeepsSound
 units_keep_sound keep names m sound = record { catalog = keep m.catalog sound.catalog; now = sound.now; names = names.units plain_way m.catalog sound.names }
 
-pub units_keep_seen : CatalogUnitsKeepSound → NamesKeep → SeenAgain → UnitsStand → UnitsKeepSeen
+pub units_keep_seen : UnitsKeepSound → NamesKeep → MachinesSeenAgain → UnitsStand → OneUnitKeepsSeen
 units_keep_seen keep names again stand m seen = subst IsSeen (sym (stand m seen)) (again (unit plain_way m) (units_keep_sound keep names m seen.sound))
 
 -- ---- any number of units
 
-pub many_units_keep_sound : UnitsKeepSound → ManyUnitsKeepSound
+pub many_units_keep_sound : OneUnitKeepsSound → ManyUnitsKeepSound
 many_units_keep_sound keep zero m sound = sound
 many_units_keep_sound keep (suc n) m sound = many_units_keep_sound keep n (unit plain_way m) (keep m sound)
 
-pub many_units_keep_seen : UnitsKeepSeen → ManyUnitsKeepSeen
+pub many_units_keep_seen : OneUnitKeepsSeen → ManyUnitsKeepSeen
 many_units_keep_seen keep zero m seen = seen
 many_units_keep_seen keep (suc n) m seen = many_units_keep_seen keep n (unit seen_way m) (keep m seen)
 
-pub many_units_refine : UnitsKeepSound → UnitsRefine → ManyUnitsRefine
+pub many_units_refine : OneUnitKeepsSound → UnitsRefine → ManyUnitsRefine
 many_units_refine keep refine zero m sound = refl
 many_units_refine keep refine (suc n) m sound = ap (units seen_way n) (refine m sound) ∙ many_units_refine keep refine n (unit plain_way m) (keep m sound)
 
-pub many_units_stand : UnitsKeepSound → UnitsRefine → ManyUnitsStand
+pub many_units_stand : OneUnitKeepsSound → UnitsRefine → ManyUnitsStand
 many_units_stand keep refine n m seen = ap (units seen_way n) (sym seen.again) ∙ many_units_refine keep refine n m seen.sound

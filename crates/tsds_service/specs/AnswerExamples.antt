@@ -20,9 +20,9 @@ use Rattle.tsds_service.specs.Causes as cause
 use Rattle.tsds_service.specs.Causes.{refused}
 use Rattle.tsds_service.specs.Examples.{mapping, first_facts, last_facts, template, stream, two, machine, second, names, plain, move_one, folding}
 use Rattle.tsds_service.specs.Machine.{Machine}
-use Rattle.tsds_service.specs.Questions.{Asking}
+use Rattle.tsds_service.specs.Questions.{Searching}
 use Rattle.tsds_service.specs.Replies.{ack, blocked_reply, rolled_reply, tasks_reply}
-use Rattle.tsds_service.specs.Requests.{told, put_template, put_stream, get_stream, delete_stream, rollover, block, delete_index, modify, step_of}
+use Rattle.tsds_service.specs.Requests.{unchanged, put_template, put_stream, get_stream, delete_stream, rollover, block, delete_index, modify, step_of}
 
 -- ---- a stream of two members: the first folded, under a name that stands behind that of the other, and the second not
 
@@ -61,15 +61,15 @@ told_stream = Object (
     ∷ tree.member (codes "generation") (Num (pos 2))
     ∷ tree.member (codes "template") (Quoted (codes "t")) ∷ [])
 
-pub stream_told : get_stream folded (codes "s") ≡ told folded (record { status = 200; body = Object (tree.member (codes "data_streams") (Listed (told_stream ∷ [])) ∷ []) })
+pub stream_told : get_stream folded (codes "s") ≡ unchanged folded (record { status = 200; body = Object (tree.member (codes "data_streams") (Listed (told_stream ∷ [])) ∷ []) })
 unfolding digits
 stream_told = refl
 
 -- an index and a template are no streams
-pub stream_of_index : get_stream folded (codes "b") ≡ told folded (refused (cause.no_such_name (codes "b")))
+pub stream_of_index : get_stream folded (codes "b") ≡ unchanged folded (refused (cause.no_such_name (codes "b")))
 stream_of_index = refl
 
-pub stream_of_template : get_stream folded (codes "t") ≡ told folded (refused (cause.no_such_name (codes "t")))
+pub stream_of_template : get_stream folded (codes "t") ≡ unchanged folded (refused (cause.no_such_name (codes "t")))
 stream_of_template = refl
 
 -- ---- a block
@@ -86,11 +86,11 @@ pub block_taken : block plain (codes "a") ≡ record { reply = blocked_reply (co
 block_taken = refl
 
 -- also where it took no documents
-pub block_again : block (machine true None []) (codes "a") ≡ told (machine true None []) (blocked_reply (codes "a"))
+pub block_again : block (machine true None []) (codes "a") ≡ unchanged (machine true None []) (blocked_reply (codes "a"))
 block_again = refl
 
 -- a stream is no index
-pub block_of_stream : block plain (codes "s") ≡ told plain (refused (cause.no_such_name (codes "s")))
+pub block_of_stream : block plain (codes "s") ≡ unchanged plain (refused (cause.no_such_name (codes "s")))
 block_of_stream = refl
 
 -- ---- templates and streams
@@ -113,7 +113,7 @@ stream_made = refl
 pub stream_gone : delete_stream (folding 1) (codes "s") ≡ record { reply = ack; machine = streamless; wrote = false }
 stream_gone = refl
 
-pub stream_not_gone : delete_stream plain (codes "a") ≡ told plain (refused (cause.no_such_name (codes "a")))
+pub stream_not_gone : delete_stream plain (codes "a") ≡ unchanged plain (refused (cause.no_such_name (codes "a")))
 stream_not_gone = refl
 
 -- the reply names the write index before and after
@@ -125,7 +125,7 @@ pub rolled : rollover plain (codes "s") ≡ record {
 unfolding backing_name day_text
 rolled = refl
 
-pub rolled_nowhere : rollover plain (codes "b") ≡ told plain (refused (cause.no_such_name (codes "b")))
+pub rolled_nowhere : rollover plain (codes "b") ≡ unchanged plain (refused (cause.no_such_name (codes "b")))
 rolled_nowhere = refl
 
 -- ---- indices
@@ -145,7 +145,7 @@ pub index_gone : delete_index (folding 1) (codes "a") ≡ record {
 }
 index_gone = refl
 
-pub index_not_gone : delete_index plain (codes "s") ≡ told plain (refused (cause.no_such_name (codes "s")))
+pub index_not_gone : delete_index plain (codes "s") ≡ unchanged plain (refused (cause.no_such_name (codes "s")))
 index_not_gone = refl
 
 -- a member that is taken out stays as an index; one that comes back stands where its window is
@@ -155,16 +155,16 @@ moved_out = refl
 pub moved_out_names : names (modify (folding 1) (move_one (codes "remove_backing_index") (codes "a"))).machine.catalog ≡ codes "a" ∷ codes "b" ∷ []
 moved_out_names = refl
 
-pub moved_back : modify (modify plain (move_one (codes "remove_backing_index") (codes "a"))).machine (move_one (codes "add_backing_index") (codes "a")) ≡ told plain ack
+pub moved_back : modify (modify plain (move_one (codes "remove_backing_index") (codes "a"))).machine (move_one (codes "add_backing_index") (codes "a")) ≡ unchanged plain ack
 moved_back = refl
 
 -- ---- which request asks for which of these, at the present that it comes with
 
-pub asked_template : (asking : Asking) (way : Way) (m : Machine) (name : List ℕ) (body : Data) → step_of asking way m (asked.put_template name body) ≡ put_template m name body (refusal_of body)
-asked_template asking way m name body = refl
+pub asked_template : (searching : Searching) (way : Way) (m : Machine) (name : List ℕ) (body : Data) → step_of searching way m (asked.put_template name body) ≡ put_template m name body (refusal_of body)
+asked_template searching way m name body = refl
 
-pub asked_stream : (asking : Asking) (way : Way) (m : Machine) (name : List ℕ) → step_of asking way m (asked.get_stream name) ≡ get_stream m name
-asked_stream asking way m name = refl
+pub asked_stream : (searching : Searching) (way : Way) (m : Machine) (name : List ℕ) → step_of searching way m (asked.get_stream name) ≡ get_stream m name
+asked_stream searching way m name = refl
 
-pub asked_tasks : (asking : Asking) (way : Way) → step_of asking way (folding 1) asked.tasks ≡ told (folding 1) (tasks_reply (folding 1).catalog)
-asked_tasks asking way = refl
+pub asked_tasks : (searching : Searching) (way : Way) → step_of searching way (folding 1) asked.tasks ≡ unchanged (folding 1) (tasks_reply (folding 1).catalog)
+asked_tasks searching way = refl

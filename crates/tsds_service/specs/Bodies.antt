@@ -2,7 +2,7 @@
 use Rattle.std.specs.Prelude.{ℕ, ◌&&◌, nat_le, List, [], ◌∷◌, length, codes, bytes_eq, Option, Some, None, option_and_then, if◌then◌else◌}
 use Rattle.json_walk.specs.Names.{has_names}
 use Rattle.json_walk.specs.Shapes.{only_member}
-use Rattle.lifecycle_swap.specs.Bodies.{interval_of}
+use Rattle.lifecycle_swap.specs.Bodies.{interval_read}
 use Rattle.serde_json.specs.Data.{Data, null, boolean, number, string, array, object, Items, no_items, item}
 use Rattle.serde_json.specs.Find.{as_str, get}
 use Rattle.stream_catalog.specs.declared.answers.Move.{Move}
@@ -12,7 +12,7 @@ use Rattle.tsds_service.specs.Limits.{most_moves}
 
 -- the interval of a downsampling: the body's one member
 abbrev pub fixed_interval_of : Data → Option Interval
-fixed_interval_of body = if has_names (codes "fixed_interval" ∷ []) body then option_and_then interval_of (get (codes "fixed_interval") body) else None
+fixed_interval_of body = if has_names (codes "fixed_interval" ∷ []) body then option_and_then interval_read (get (codes "fixed_interval") body) else None
 
 -- ---- moves
 

@@ -30,9 +30,9 @@ use Rattle.tsds_service.specs.Causes as cause
 use Rattle.tsds_service.specs.Causes.{Cause, refused, bulk_cause}
 use Rattle.tsds_service.specs.Examples.{row_at, first_facts, last_facts, first_index, two, item, document, machine, plain, move_of, move_one}
 use Rattle.tsds_service.specs.Machine.{Machine}
-use Rattle.tsds_service.specs.Questions.{Asking, samples_of}
+use Rattle.tsds_service.specs.Questions.{Searching, samples_of}
 use Rattle.tsds_service.specs.Replies.{ack}
-use Rattle.tsds_service.specs.Requests.{told, bulk, modify, put_lifecycle, step_of}
+use Rattle.tsds_service.specs.Requests.{unchanged, bulk, modify, put_lifecycle, step_of}
 
 -- ---- the interval of a downsampling
 
@@ -145,22 +145,22 @@ pub moves_more : moves_of (object (member (codes "actions") (array (element (mov
 moves_more = refl
 
 -- such a body is refused
-pub modify_refused : modify plain (actions (array no_items)) ≡ told plain (refused cause.bad_body)
+pub modify_refused : modify plain (actions (array no_items)) ≡ unchanged plain (refused cause.bad_body)
 modify_refused = refl
 
 -- ---- a lifecycle: the stream is looked for before the body is read
 
-pub life_nowhere : (body : Data) → put_lifecycle plain (codes "x") body ≡ told plain (refused (cause.no_such_name (codes "x")))
+pub life_nowhere : (body : Data) → put_lifecycle plain (codes "x") body ≡ unchanged plain (refused (cause.no_such_name (codes "x")))
 life_nowhere body = refl
 
 -- an index is no stream
-pub life_of_index : (body : Data) → put_lifecycle plain (codes "a") body ≡ told plain (refused (cause.no_such_name (codes "a")))
+pub life_of_index : (body : Data) → put_lifecycle plain (codes "a") body ≡ unchanged plain (refused (cause.no_such_name (codes "a")))
 life_of_index body = refl
 
-pub life_refused : (body : Data) → lifecycle_of body ≡ None → put_lifecycle plain (codes "s") body ≡ told plain (refused cause.bad_body)
+pub life_refused : (body : Data) → lifecycle_of body ≡ None → put_lifecycle plain (codes "s") body ≡ unchanged plain (refused cause.bad_body)
 life_refused body is = rw is refl
 
-pub life_null : put_lifecycle plain (codes "s") (object (member (codes "data_retention") null no_members)) ≡ told plain (refused cause.bad_body)
+pub life_null : put_lifecycle plain (codes "s") (object (member (codes "data_retention") null no_members)) ≡ unchanged plain (refused cause.bad_body)
 unfolding lifecycle_of
 life_null = refl
 
@@ -180,46 +180,46 @@ items_refused path body e c is told = (same_with_causes bulk_cause (bulk_of path
 items_taken : (path : Option (List ℕ)) (body : List ℕ) (items : List Item) → bulk_of path body ≡ Ok items → items_of path body ≡ Ok items
 items_taken path body items is = (same_with_causes bulk_cause (bulk_of path body) (bulks_caused path body)).value items is
 
-pub bulk_action : (asking : Asking) (way : Way) (m : Machine) (path : Option (List ℕ)) (body : List ℕ) → bulk_of path body ≡ Err (BadAction 3) →
-    step_of asking way m (asked.bulk path body) ≡ told m (refused (cause.bad_action 3))
-bulk_action asking way m path body is = ap (bulk way m) (items_refused path body (BadAction 3) (cause.bad_action 3) is refl)
+pub bulk_action : (searching : Searching) (way : Way) (m : Machine) (path : Option (List ℕ)) (body : List ℕ) → bulk_of path body ≡ Err (BadAction 3) →
+    step_of searching way m (asked.bulk path body) ≡ unchanged m (refused (cause.bad_action 3))
+bulk_action searching way m path body is = ap (bulk way m) (items_refused path body (BadAction 3) (cause.bad_action 3) is refl)
 
-pub bulk_source : (asking : Asking) (way : Way) (m : Machine) (path : Option (List ℕ)) (body : List ℕ) → bulk_of path body ≡ Err (MissingSource 7) →
-    step_of asking way m (asked.bulk path body) ≡ told m (refused (cause.missing_source 7))
-bulk_source asking way m path body is = ap (bulk way m) (items_refused path body (MissingSource 7) (cause.missing_source 7) is refl)
+pub bulk_source : (searching : Searching) (way : Way) (m : Machine) (path : Option (List ℕ)) (body : List ℕ) → bulk_of path body ≡ Err (MissingSource 7) →
+    step_of searching way m (asked.bulk path body) ≡ unchanged m (refused (cause.missing_source 7))
+bulk_source searching way m path body is = ap (bulk way m) (items_refused path body (MissingSource 7) (cause.missing_source 7) is refl)
 
-pub bulk_empty : (asking : Asking) (way : Way) (m : Machine) (path : Option (List ℕ)) (body : List ℕ) → bulk_of path body ≡ Err Empty →
-    step_of asking way m (asked.bulk path body) ≡ told m (refused cause.no_items)
-bulk_empty asking way m path body is = ap (bulk way m) (items_refused path body Empty cause.no_items is refl)
+pub bulk_empty : (searching : Searching) (way : Way) (m : Machine) (path : Option (List ℕ)) (body : List ℕ) → bulk_of path body ≡ Err Empty →
+    step_of searching way m (asked.bulk path body) ≡ unchanged m (refused cause.no_items)
+bulk_empty searching way m path body is = ap (bulk way m) (items_refused path body Empty cause.no_items is refl)
 
 -- one that is taken puts a row, and tells the index
-pub bulk_taken : (asking : Asking) (path : Option (List ℕ)) (body source : List ℕ) → bulk_of path body ≡ Ok (item (Some source) ∷ []) → object_of source ≡ Some (document 97 1600 1) →
-    step_of asking plain_way plain (asked.bulk path body) ≡ record {
+pub bulk_taken : (searching : Searching) (path : Option (List ℕ)) (body source : List ℕ) → bulk_of path body ≡ Ok (item (Some source) ∷ []) → object_of source ≡ Some (document 97 1600 1) →
+    step_of searching plain_way plain (asked.bulk path body) ≡ record {
       reply = bulk_reply (item (Some source) ∷ []) (taken (codes "a") (row_at 97 1600 1) ∷ []);
       machine = record plain { catalog = put_into plain_way (two false None []) (codes "a") (row_at 97 1600 1) };
       wrote = false;
     }
 unfolding item_outcome time_fault time_of leaf.leaves_of document_cells fault_at is_utf8 chars encode_utf8
-bulk_taken asking path body source items is = ap (bulk plain_way plain) (items_taken path body (item (Some source) ∷ []) items) ∙ rw is refl
+bulk_taken searching path body source items is = ap (bulk plain_way plain) (items_taken path body (item (Some source) ∷ []) items) ∙ rw is refl
 
 -- ---- searches and counts: of a name that nothing has, of a stream, and of an index
 
-pub search_nothing : (asking : Asking) (way : Way) (body : Option Data) → step_of asking way plain (asked.search_rows (codes "x") body) ≡ told plain (refused (cause.no_such_name (codes "x")))
-search_nothing asking way body = refl
+pub search_nothing : (searching : Searching) (way : Way) (body : Option Data) → step_of searching way plain (asked.search_rows (codes "x") body) ≡ unchanged plain (refused (cause.no_such_name (codes "x")))
+search_nothing searching way body = refl
 
-pub count_nothing : (asking : Asking) (way : Way) (body : Option Data) → step_of asking way plain (asked.count_rows (codes "x") body) ≡ told plain (refused (cause.no_such_name (codes "x")))
-count_nothing asking way body = refl
+pub count_nothing : (searching : Searching) (way : Way) (body : Option Data) → step_of searching way plain (asked.count_rows (codes "x") body) ≡ unchanged plain (refused (cause.no_such_name (codes "x")))
+count_nothing searching way body = refl
 
 -- a template is no target
-pub search_template : (asking : Asking) (way : Way) (body : Option Data) → step_of asking way plain (asked.search_rows (codes "t") body) ≡ told plain (refused (cause.no_such_name (codes "t")))
-search_template asking way body = refl
+pub search_template : (searching : Searching) (way : Way) (body : Option Data) → step_of searching way plain (asked.search_rows (codes "t") body) ≡ unchanged plain (refused (cause.no_such_name (codes "t")))
+search_template searching way body = refl
 
 -- all members of a stream are asked, at the present moment
-pub search_stream : (asking : Asking) (body : Option Data) → step_of asking plain_way plain (asked.search_rows (codes "s") body)
-    ≡ told plain (asking.search (pos 15000) (first_facts false ∷ last_facts ∷ []) (samples_of plain_way (first_index false ∷ record { facts = last_facts; rows = [] } ∷ [])) body)
-search_stream asking body = refl
+pub search_stream : (searching : Searching) (body : Option Data) → step_of searching plain_way plain (asked.search_rows (codes "s") body)
+    ≡ unchanged plain (searching.search (pos 15000) (first_facts false ∷ last_facts ∷ []) (samples_of plain_way (first_index false ∷ record { facts = last_facts; rows = [] } ∷ [])) body)
+search_stream searching body = refl
 
 -- and of an index it alone
-pub count_index : (asking : Asking) (body : Option Data) → step_of asking plain_way plain (asked.count_rows (codes "a") body)
-    ≡ told plain (asking.count (pos 15000) (first_facts false ∷ []) (samples_of plain_way (first_index false ∷ [])) body)
-count_index asking body = refl
+pub count_index : (searching : Searching) (body : Option Data) → step_of searching plain_way plain (asked.count_rows (codes "a") body)
+    ≡ unchanged plain (searching.count (pos 15000) (first_facts false ∷ []) (samples_of plain_way (first_index false ∷ [])) body)
+count_index searching body = refl

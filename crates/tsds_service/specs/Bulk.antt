@@ -25,6 +25,7 @@ use Rattle.stream_catalog.specs.declared.answers.PickError.TheVariants.{NoWindow
 use Rattle.synthetic_source.specs.Document.{document_cells}
 use Rattle.synthetic_source.specs.Faults.{time_fault, time_of}
 use Rattle.synthetic_source.specs.declared.errors.DocKind.{DocKind}
+use Rattle.synthetic_source.specs.declared.errors.DocKind.TheVariants.{NoTime}
 use Rattle.tsds_service.specs.Caused.{with_cause}
 use Rattle.tsds_service.specs.CausedLaws.{bulks_caused, keys_caused}
 use Rattle.tsds_service.specs.Causes.{Wrong, Cause, ItemCause, only_create, no_stream, no_object, bad_time, outside, blocked, bad_document, conflict, full, item_said, bulk_cause, key_cause}
@@ -71,14 +72,14 @@ by_pick c s time d (Ok n) = with_found (index_named n c.indices) (barred (outsid
 by_pick c s time d (Err NoWindow) = barred (outside time)
 by_pick c s time d (Err Blocked) = barred (blocked (unwrap_or (member_at (facts_of c) time s) []))
 
--- the document has a time
-abbrev pub by_time : Option DocKind → ℤ → (ℤ → Outcome) → Outcome
-by_time (Some kind) time later = barred (bad_time kind)
-by_time None time later = later time
+-- the document has a time; where it has none, that is at fault
+abbrev pub by_time : PlainCatalog → PlainStream → Data → Option ℤ → Outcome
+by_time c s d (Some time) = by_pick c s time d (picked_by (facts_of c) s time)
+by_time c s d None = barred (bad_time (unwrap_or (time_fault d) NoTime))
 
 -- what comes of a document of a stream
 abbrev pub by_document : PlainCatalog → PlainStream → Data → Outcome
-by_document c s d = by_time (time_fault d) (unwrap_or (time_of d) (pos 0)) (λ time. by_pick c s time d (picked_by (facts_of c) s time))
+by_document c s d = by_time c s d (time_of d)
 
 -- a stream has the name, and the source is an object
 abbrev pub by_stream : PlainCatalog → List ℕ → Option (List ℕ) → Outcome

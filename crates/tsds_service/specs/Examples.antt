@@ -57,11 +57,11 @@ use Rattle.stream_catalog.specs.declared.answers.What.TheVariants.{Templates, St
 use Rattle.stream_catalog.specs.declared.answers.Refusal.TheVariants.{ChangedField, Limit}
 use Rattle.tsds_service.specs.Machine.{Machine, unit}
 use Rattle.tsds_service.specs.Messages.{reading_of, message_told, moment_by}
-use Rattle.tsds_service.specs.Questions.{Asking, facts_in, joined_fields, samples_of, no_document, document_reply}
+use Rattle.tsds_service.specs.Questions.{Searching, facts_in, joined_fields, samples_of, no_document, document_reply}
 use Rattle.tsds_service.specs.Replies.{ack, interval_word, ran_reply, rolled_reply, tasks_reply}
-use Rattle.tsds_service.specs.Requests.{told, put_template, put_stream, rollover, block, delete_index, downsample_by, get_document, modify, run_lifecycle, step}
+use Rattle.tsds_service.specs.Requests.{unchanged, put_template, put_stream, rollover, block, delete_index, downsample_by, get_document, modify, run_lifecycle, step}
 use Rattle.tsds_service.specs.declared.reply.Reply.{Reply}
-use Rattle.tsds_service.specs.Turns.{asks, sends, comes, works, standing_of, replies, behind, last_written}
+use Rattle.tsds_service.specs.Turns.{asks, scripted, linked, works, dated, all_replies, left_behind, last_recorded}
 use Rattle.tsds_service.specs.Bulk.{Outcome, taken, barred, after_outcome, by_document, by_cells, by_key, by_place, item_outcome, outcomes_of, item_tree, bulk_reply}
 use Rattle.tsds_service.specs.CausedLaws.{keys_caused, same_with_causes}
 use Rattle.tsds_service.specs.Causes as cause
@@ -204,13 +204,13 @@ fold_reply = refl
 pub fold_left : names (downsample_by plain_way (machine true None []) (codes "a") (codes "c") (Some second)).machine.catalog ≡ codes "a" ∷ codes "b" ∷ codes "c" ∷ []
 fold_left = refl
 
-pub fold_refused : downsample_by plain_way (machine false None []) (codes "a") (codes "c") (Some second) ≡ told (machine false None []) (refused (cause.not_blocked (codes "a")))
+pub fold_refused : downsample_by plain_way (machine false None []) (codes "a") (codes "c") (Some second) ≡ unchanged (machine false None []) (refused (cause.not_blocked (codes "a")))
 fold_refused = refl
 
-pub fold_named : downsample_by plain_way (machine true None []) (codes "x") (codes "c") None ≡ told (machine true None []) (refused (cause.no_such_name (codes "x")))
+pub fold_named : downsample_by plain_way (machine true None []) (codes "x") (codes "c") None ≡ unchanged (machine true None []) (refused (cause.no_such_name (codes "x")))
 fold_named = refl
 
-pub fold_bodiless : downsample_by plain_way (machine true None []) (codes "a") (codes "c") None ≡ told (machine true None []) (refused cause.bad_body)
+pub fold_bodiless : downsample_by plain_way (machine true None []) (codes "a") (codes "c") None ≡ unchanged (machine true None []) (refused cause.bad_body)
 fold_bodiless = refl
 
 -- an index that has an interval takes a greater multiple of it alone
@@ -227,13 +227,13 @@ folded_machine = record (machine true None []) {
   };
 }
 
-pub fold_same : downsample_by plain_way folded_machine (codes "a") (codes "c") (Some two_seconds) ≡ told folded_machine (refused (cause.not_greater (interval_word two_seconds) (interval_word two_seconds)))
+pub fold_same : downsample_by plain_way folded_machine (codes "a") (codes "c") (Some two_seconds) ≡ unchanged folded_machine (refused (cause.not_greater (interval_word two_seconds) (interval_word two_seconds)))
 fold_same = refl
 
-pub fold_between : downsample_by plain_way folded_machine (codes "a") (codes "c") (Some three_seconds) ≡ told folded_machine (refused (cause.not_multiple (interval_word three_seconds) (interval_word two_seconds)))
+pub fold_between : downsample_by plain_way folded_machine (codes "a") (codes "c") (Some three_seconds) ≡ unchanged folded_machine (refused (cause.not_multiple (interval_word three_seconds) (interval_word two_seconds)))
 fold_between = refl
 
-pub fold_lesser : downsample_by plain_way folded_machine (codes "a") (codes "c") (Some second) ≡ told folded_machine (refused (cause.not_greater (interval_word second) (interval_word two_seconds)))
+pub fold_lesser : downsample_by plain_way folded_machine (codes "a") (codes "c") (Some second) ≡ unchanged folded_machine (refused (cause.not_greater (interval_word second) (interval_word two_seconds)))
 fold_lesser = refl
 
 -- with the last series a fold stands in the place of its index, in its stream too; not before
@@ -253,7 +253,7 @@ abbrev remove : List ℕ → Data
 remove index = object (member (codes "remove_backing_index") (object (member (codes "data_stream") (string (codes "s")) (member (codes "index") (string index) no_members))) no_members)
 
 pub move_refused : modify (folding 1) (object (member (codes "actions") (array (element (remove (codes "a")) (element (remove (codes "b")) no_items))) no_members))
-    ≡ told (folding 1) (refused (cause.is_write_index (codes "b") (codes "s")))
+    ≡ unchanged (folding 1) (refused (cause.is_write_index (codes "b") (codes "s")))
 move_refused = refl
 
 -- a removal ends the task of its member
@@ -276,9 +276,9 @@ unfolding lifecycle_run
 run_deletes = refl
 
 -- the moment becomes the present, also where the request is refused; without records nothing is flushed
-pub flush_refused : (asking : Asking) → step asking plain_way (machine false None []) flush (pos 16000) ≡ told (record (machine false None []) { now = pos 16000 }) (refused cause.no_data)
+pub flush_refused : (searching : Searching) → step searching plain_way (machine false None []) flush (pos 16000) ≡ unchanged (record (machine false None []) { now = pos 16000 }) (refused cause.no_data)
 unfolding step
-flush_refused asking = refl
+flush_refused searching = refl
 
 -- a moment is taken where it isn't earlier than the present, which stays where it is refused
 pub moment_same : moment_by (pos 5) (Some (pos 5)) ≡ record { reply = None; now = pos 5 }
@@ -298,23 +298,23 @@ argues reason = reply_of (wrong 400 (codes "illegal_argument_exception") reason)
 abbrev pub plain : Machine
 plain = machine false None []
 
-pub step_nothing : block plain (codes "x") ≡ told plain (reply_of (wrong 404 (codes "index_not_found_exception") (codes "no such index [x]")))
+pub step_nothing : block plain (codes "x") ≡ unchanged plain (reply_of (wrong 404 (codes "index_not_found_exception") (codes "no such index [x]")))
 step_nothing = refl
 
-pub step_taken : put_stream plain (codes "s") ≡ told plain (reply_of (wrong 400 (codes "resource_already_exists_exception") (codes "[s] already exists")))
+pub step_taken : put_stream plain (codes "s") ≡ unchanged plain (reply_of (wrong 400 (codes "resource_already_exists_exception") (codes "[s] already exists")))
 step_taken = refl
 
-pub step_reserved : put_stream plain (codes "downsample-x") ≡ told plain (argues (codes "name [downsample-x] is reserved"))
+pub step_reserved : put_stream plain (codes "downsample-x") ≡ unchanged plain (argues (codes "name [downsample-x] is reserved"))
 step_reserved = refl
 
-pub step_untaken : put_stream plain (codes "x") ≡ told plain (argues (codes "no matching index template for [x]"))
+pub step_untaken : put_stream plain (codes "x") ≡ unchanged plain (argues (codes "no matching index template for [x]"))
 unfolding pattern_takes
 step_untaken = refl
 
-pub step_write : delete_index plain (codes "b") ≡ told plain (argues (codes "[b] is the write index of [s]"))
+pub step_write : delete_index plain (codes "b") ≡ unchanged plain (argues (codes "[b] is the write index of [s]"))
 step_write = refl
 
-pub step_open : downsample_by plain_way plain (codes "a") (codes "c") (Some second) ≡ told plain (argues (codes "[a] must be blocked for writes"))
+pub step_open : downsample_by plain_way plain (codes "a") (codes "c") (Some second) ≡ unchanged plain (argues (codes "[a] must be blocked for writes"))
 step_open = refl
 
 -- moves
@@ -332,16 +332,16 @@ beside template = record plain {
   };
 }
 
-pub step_not_member : modify plain (move_one (codes "remove_backing_index") (codes "c")) ≡ told plain (argues (codes "[c] is not a backing index of [s]"))
+pub step_not_member : modify plain (move_one (codes "remove_backing_index") (codes "c")) ≡ unchanged plain (argues (codes "[c] is not a backing index of [s]"))
 step_not_member = refl
 
-pub step_member : modify plain (move_one (codes "add_backing_index") (codes "a")) ≡ told plain (argues (codes "[a] is a backing index of [s]"))
+pub step_member : modify plain (move_one (codes "add_backing_index") (codes "a")) ≡ unchanged plain (argues (codes "[a] is a backing index of [s]"))
 step_member = refl
 
-pub step_mapped : modify (beside (codes "u")) (move_one (codes "add_backing_index") (codes "l")) ≡ told (beside (codes "u")) (argues (codes "[l] has another mapping than [s]"))
+pub step_mapped : modify (beside (codes "u")) (move_one (codes "add_backing_index") (codes "l")) ≡ unchanged (beside (codes "u")) (argues (codes "[l] has another mapping than [s]"))
 step_mapped = refl
 
-pub step_window : modify (beside (codes "t")) (move_one (codes "add_backing_index") (codes "l")) ≡ told (beside (codes "t")) (argues (codes "window of [l] does not fit [s]"))
+pub step_window : modify (beside (codes "t")) (move_one (codes "add_backing_index") (codes "l")) ≡ unchanged (beside (codes "t")) (argues (codes "window of [l] does not fit [s]"))
 step_window = refl
 
 -- rollovers
@@ -353,10 +353,10 @@ ending end generation = record plain {
   };
 }
 
-pub step_over : rollover (ending last_instant 2) (codes "s") ≡ told (ending last_instant 2) (argues (codes "no time is left after [b]"))
+pub step_over : rollover (ending last_instant 2) (codes "s") ≡ unchanged (ending last_instant 2) (argues (codes "no time is left after [b]"))
 step_over = refl
 
-pub step_generations : rollover (ending (pos 20000) 999_999) (codes "s") ≡ told (ending (pos 20000) 999_999) (argues (codes "limit of [generations] reached"))
+pub step_generations : rollover (ending (pos 20000) 999_999) (codes "s") ≡ unchanged (ending (pos 20000) 999_999) (argues (codes "limit of [generations] reached"))
 step_generations = refl
 
 -- with other indices beside the two of s
@@ -366,74 +366,74 @@ crowded is = record plain { catalog = record (two true None []) { indices = firs
 abbrev crowd : List PlainIndex → PlainFacts
 crowd is = facts_of (crowded is).catalog
 
-pub step_indices : (is : List PlainIndex) → nat_le most_indices (length (crowd is).indices) ≡ true → rollover (crowded is) (codes "s") ≡ told (crowded is) (argues (codes "limit of [indices] reached"))
+pub step_indices : (is : List PlainIndex) → nat_le most_indices (length (crowd is).indices) ≡ true → rollover (crowded is) (codes "s") ≡ unchanged (crowded is) (argues (codes "limit of [indices] reached"))
 step_indices is most = rw most refl
 
 -- a next index whose name is taken
 pub step_next_taken : (is : List PlainIndex) → nat_le most_indices (length (crowd is).indices) ≡ false → is_taken (next_name (stream None) (pos 15000)) (crowd is) ≡ true →
-    rollover (crowded is) (codes "s") ≡ told (crowded is) (refused (cause.name_taken (next_name (stream None) (pos 15000))))
+    rollover (crowded is) (codes "s") ≡ unchanged (crowded is) (refused (cause.name_taken (next_name (stream None) (pos 15000))))
 step_next_taken is room held = rw (room, held) refl
 
 -- a fold for which there is no room
 pub step_fold_many : (is : List PlainIndex) → is_taken (codes "c") (crowd is) ≡ false → nat_le most_indices (length (crowd is).indices) ≡ true →
-    downsample_by plain_way (crowded is) (codes "a") (codes "c") (Some second) ≡ told (crowded is) (argues (codes "limit of [indices] reached"))
+    downsample_by plain_way (crowded is) (codes "a") (codes "c") (Some second) ≡ unchanged (crowded is) (argues (codes "limit of [indices] reached"))
 step_fold_many is free most = rw (free, most) refl
 
 -- new streams, of any machine: too many streams, too many indices, and a first index whose name is taken
 pub step_streams : (m : Machine) → is_taken (codes "s") (facts_of m.catalog) ≡ false → is_some (template_for (codes "s") m.catalog.templates) ≡ true →
-    nat_le most_streams (length m.catalog.streams) ≡ true → put_stream m (codes "s") ≡ told m (argues (codes "limit of [streams] reached"))
+    nat_le most_streams (length m.catalog.streams) ≡ true → put_stream m (codes "s") ≡ unchanged m (argues (codes "limit of [streams] reached"))
 step_streams m free there most = rw (free, there, most) refl
 
 pub step_first_indices : (m : Machine) → is_taken (codes "s") (facts_of m.catalog) ≡ false → is_some (template_for (codes "s") m.catalog.templates) ≡ true →
-    nat_le most_streams (length m.catalog.streams) ≡ false → nat_le most_indices (length (facts_of m.catalog).indices) ≡ true → put_stream m (codes "s") ≡ told m (argues (codes "limit of [indices] reached"))
+    nat_le most_streams (length m.catalog.streams) ≡ false → nat_le most_indices (length (facts_of m.catalog).indices) ≡ true → put_stream m (codes "s") ≡ unchanged m (argues (codes "limit of [indices] reached"))
 step_first_indices m free there room most = rw (free, there, room, most) refl
 
 pub step_first_taken : (m : Machine) → is_taken (codes "s") (facts_of m.catalog) ≡ false → is_some (template_for (codes "s") m.catalog.templates) ≡ true →
     nat_le most_streams (length m.catalog.streams) ≡ false → nat_le most_indices (length (facts_of m.catalog).indices) ≡ false → is_taken (first_name (codes "s") m.now) (facts_of m.catalog) ≡ true →
-    put_stream m (codes "s") ≡ told m (refused (cause.name_taken (first_name (codes "s") m.now)))
+    put_stream m (codes "s") ≡ unchanged m (refused (cause.name_taken (first_name (codes "s") m.now)))
 step_first_taken m free there few room held = rw (free, there, few, room, held) refl
 
 -- templates, of whatever body
 pub step_changed : (body : Data) → template_refusal (facts_of (two false None [])) (template_of (codes "t") body) ≡ Some (ChangedField (codes "p") (codes "i")) →
-    put_template plain (codes "t") body None ≡ told plain (argues (codes "field [p] is mapped in another way in [i]"))
+    put_template plain (codes "t") body None ≡ unchanged plain (argues (codes "field [p] is mapped in another way in [i]"))
 step_changed body is = rw is refl
 
 pub step_many : (body : Data) → template_refusal (facts_of (two false None [])) (template_of (codes "t") body) ≡ Some (Limit Templates) →
-    put_template plain (codes "t") body None ≡ told plain (argues (codes "limit of [templates] reached"))
+    put_template plain (codes "t") body None ≡ unchanged plain (argues (codes "limit of [templates] reached"))
 step_many body is = rw is refl
 
 pub step_faulty : (body : Data) → put_template plain (codes "t") body (Some (record { kind = Shape; path = codes "p" }))
-    ≡ told plain (reply_of (wrong 400 (codes "mapper_parsing_exception") (codes "Shape [p]")))
+    ≡ unchanged plain (reply_of (wrong 400 (codes "mapper_parsing_exception") (codes "Shape [p]")))
 step_faulty body = refl
 
 -- ---- messages
 
 -- a reading that is refused leaves the moment, and the task goes on by a series all the same
-pub told_refused : (asking : Asking) →
-    message_told asking plain_way (folding 0) (pos 16000) (codes "GET") (codes "x") [] ≡ record { reply = refused cause.no_such_path; stepped = folding 0; after = folding 1; wrote = false }
+pub told_refused : (searching : Searching) →
+    message_told searching plain_way (folding 0) (pos 16000) (codes "GET") (codes "x") [] ≡ record { reply = refused cause.no_such_path; stepped = folding 0; after = folding 1; wrote = false }
 unfolding message_told request_of unit_of
-told_refused asking = refl
+told_refused searching = refl
 
 -- what a flush as it is sent writes is the machine before its unit, at the moment of the message
 abbrev kept_at : ℕ → ℤ → Machine
 kept_at done now = record (folding done) { kept = true; now = now }
 
-pub told_flush : (asking : Asking) (method target body : List ℕ) → reading_of method target body ≡ Ok flush →
-    message_told asking plain_way (kept_at 0 (pos 15000)) (pos 16000) method target body ≡ record { reply = ack; stepped = kept_at 0 (pos 16000); after = kept_at 1 (pos 16000); wrote = true }
+pub told_flush : (searching : Searching) (method target body : List ℕ) → reading_of method target body ≡ Ok flush →
+    message_told searching plain_way (kept_at 0 (pos 15000)) (pos 16000) method target body ≡ record { reply = ack; stepped = kept_at 0 (pos 16000); after = kept_at 1 (pos 16000); wrote = true }
 unfolding message_told step unit_of
-told_flush asking method target body is = rw is refl
+told_flush searching method target body is = rw is refl
 
 -- so the records are those of the machine before its unit
-pub written_flush : (asking : Asking) (method target body : List ℕ) → reading_of method target body ≡ Ok flush →
-    last_written asking plain_way None (standing_of (kept_at 0 (pos 15000))) (sends method target body ∷ works ∷ []) ≡ Some (kept_at 0 (pos 15000))
+pub written_flush : (searching : Searching) (method target body : List ℕ) → reading_of method target body ≡ Ok flush →
+    last_recorded searching plain_way None (dated (kept_at 0 (pos 15000))) (scripted method target body ∷ works ∷ []) ≡ Some (kept_at 0 (pos 15000))
 unfolding message_told step unit_of
-written_flush asking method target body is = rw is refl
+written_flush searching method target body is = rw is refl
 
 -- one that comes at a moment of its own makes that the present, and is told by it
-pub written_later : (asking : Asking) (method target body : List ℕ) → reading_of method target body ≡ Ok flush →
-    last_written asking plain_way None (standing_of (kept_at 0 (pos 15000))) (comes method target body (pos 16000) ∷ []) ≡ Some (kept_at 0 (pos 16000))
+pub written_later : (searching : Searching) (method target body : List ℕ) → reading_of method target body ≡ Ok flush →
+    last_recorded searching plain_way None (dated (kept_at 0 (pos 15000))) (linked method target body (pos 16000) ∷ []) ≡ Some (kept_at 0 (pos 16000))
 unfolding message_told step unit_of
-written_later asking method target body is = rw is refl
+written_later searching method target body is = rw is refl
 
 -- ---- a bulk request: each item sees what those before it left
 
@@ -495,21 +495,21 @@ offered_fold = refl
 -- ---- turns
 
 -- two units end a fold of two series
-pub units_swap : (asking : Asking) → names (behind asking plain_way (standing_of (folding 0)) (works ∷ works ∷ [])).machine.catalog ≡ codes "b" ∷ codes "f" ∷ []
+pub units_swap : (searching : Searching) → names (left_behind searching plain_way (dated (folding 0)) (works ∷ works ∷ [])).machine.catalog ≡ codes "b" ∷ codes "f" ∷ []
 unfolding unit_of
-units_swap asking = refl
+units_swap searching = refl
 
 -- what a flush writes is the machine right after its step
 abbrev recorded : ℤ → Machine
 recorded now = record (folding 0) { kept = true; now = now }
 
-pub flush_written : (asking : Asking) → last_written asking plain_way None (standing_of (recorded (pos 15000))) (asks flush (pos 16000) ∷ works ∷ []) ≡ Some (recorded (pos 16000))
+pub flush_written : (searching : Searching) → last_recorded searching plain_way None (dated (recorded (pos 15000))) (asks flush (pos 16000) ∷ works ∷ []) ≡ Some (recorded (pos 16000))
 unfolding step unit_of
-flush_written asking = refl
+flush_written searching = refl
 
-pub flush_told : (asking : Asking) → replies asking plain_way (standing_of (recorded (pos 15000))) (works ∷ asks flush (pos 16000) ∷ []) ≡ ack ∷ []
+pub flush_told : (searching : Searching) → all_replies searching plain_way (dated (recorded (pos 15000))) (works ∷ asks flush (pos 16000) ∷ []) ≡ ack ∷ []
 unfolding step unit_of
-flush_told asking = refl
+flush_told searching = refl
 
 -- ---- replies: their members, in order
 
@@ -604,7 +604,7 @@ pub found_tree : document_reply (first_facts false) (codes "x") (row_at 97 1500 
 }
 found_tree = refl
 
-pub found_document : get_document plain_way (machine false None []) (codes "a") (id_of (key 97) (pos 1500)) ≡ told (machine false None []) (document_reply (first_facts false) (id_of (key 97) (pos 1500)) (row_at 97 1500 7))
+pub found_document : get_document plain_way (machine false None []) (codes "a") (id_of (key 97) (pos 1500)) ≡ unchanged (machine false None []) (document_reply (first_facts false) (id_of (key 97) (pos 1500)) (row_at 97 1500 7))
 found_document = rw ((bytes_eq-Decides (id_of (key 97) (pos 1500)) (id_of (key 97) (pos 1500))).1 refl) refl
 
 pub missing_tree : no_document (codes "i") (codes "x") ≡ record {
@@ -616,10 +616,10 @@ pub missing_tree : no_document (codes "i") (codes "x") ≡ record {
 }
 missing_tree = refl
 
-pub missing_document : get_document plain_way (machine false None []) (codes "b") (codes "x") ≡ told (machine false None []) (no_document (codes "b") (codes "x"))
+pub missing_document : get_document plain_way (machine false None []) (codes "b") (codes "x") ≡ unchanged (machine false None []) (no_document (codes "b") (codes "x"))
 missing_document = refl
 
-pub missing_index : get_document plain_way (machine false None []) (codes "s") (codes "x") ≡ told (machine false None []) (refused (cause.no_such_name (codes "s")))
+pub missing_index : get_document plain_way (machine false None []) (codes "s") (codes "x") ≡ unchanged (machine false None []) (refused (cause.no_such_name (codes "s")))
 missing_index = refl
 
 -- ---- statuses and types

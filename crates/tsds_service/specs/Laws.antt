@@ -19,13 +19,13 @@ use Rattle.tsds_service.specs.CausedLaws.{IsSameWithCauses}
 use Rattle.tsds_service.specs.Causes.{request_cause, bulk_cause, key_cause}
 use Rattle.tsds_service.specs.Machine.{Machine, empty_machine, see, unit, units, IsSound, IsSeen}
 use Rattle.tsds_service.specs.Messages.{see_told, reading_of, message_told, moment_told}
-use Rattle.tsds_service.specs.Questions.{Asking, samples_of, target_of}
+use Rattle.tsds_service.specs.Questions.{Searching, samples_of, target_of}
 use Rattle.tsds_service.specs.Requests.{see_stepped, step}
-use Rattle.tsds_service.specs.Turns.{Turn, Standing, see_standing, replies, behind, last_written, IsTurn}
+use Rattle.tsds_service.specs.Turns.{Turn, Dated, see_dated, all_replies, left_behind, last_recorded, IsTurn}
 
 -- what is seen of a sound machine is sound, and seen again itself
-abbrev pub SeenAgain : Type 0
-SeenAgain = (m : Machine) → IsSound m → IsSeen (see m)
+abbrev pub MachinesSeenAgain : Type 0
+MachinesSeenAgain = (m : Machine) → IsSound m → IsSeen (see m)
 
 -- the rows offered of what is seen are those offered of all rows, so whatever is read from them is the same
 abbrev pub SamplesStay : Type 0
@@ -33,14 +33,14 @@ SamplesStay = (is : List PlainIndex) → samples_of seen_way (map see_index is) 
 
 -- the step of what is seen is what is seen of the step, with the same reply, however questions are answered
 abbrev pub StepsRefine : Type 0
-StepsRefine = (asking : Asking) (m : Machine) (message : Message) (now : ℤ) → IsSound m → step asking seen_way (see m) message now ≡ see_stepped (step asking plain_way m message now)
+StepsRefine = (searching : Searching) (m : Machine) (message : Message) (now : ℤ) → IsSound m → step searching seen_way (see m) message now ≡ see_stepped (step searching plain_way m message now)
 
 abbrev pub UnitsRefine : Type 0
 UnitsRefine = (m : Machine) → IsSound m → unit seen_way (see m) ≡ see (unit plain_way m)
 
 -- what code holds stands for itself too: its step is what is seen of the plain step, and so is its unit
 abbrev pub StepsStand : Type 0
-StepsStand = (asking : Asking) (m : Machine) (message : Message) (now : ℤ) → IsSeen m → step asking seen_way m message now ≡ see_stepped (step asking plain_way m message now)
+StepsStand = (searching : Searching) (m : Machine) (message : Message) (now : ℤ) → IsSeen m → step searching seen_way m message now ≡ see_stepped (step searching plain_way m message now)
 
 abbrev pub UnitsStand : Type 0
 UnitsStand = (m : Machine) → IsSeen m → unit seen_way m ≡ see (unit plain_way m)
@@ -65,11 +65,11 @@ pub record CausesStand : Type 0 where
 abbrev pub EmptyIsSeen : Type 0
 EmptyIsSeen = (kept : Bool) → IsSeen (empty_machine kept)
 
-abbrev pub UnitsKeepSound : Type 0
-UnitsKeepSound = (m : Machine) → IsSound m → IsSound (unit plain_way m)
+abbrev pub OneUnitKeepsSound : Type 0
+OneUnitKeepsSound = (m : Machine) → IsSound m → IsSound (unit plain_way m)
 
-abbrev pub UnitsKeepSeen : Type 0
-UnitsKeepSeen = (m : Machine) → IsSeen m → IsSeen (unit seen_way m)
+abbrev pub OneUnitKeepsSeen : Type 0
+OneUnitKeepsSeen = (m : Machine) → IsSeen m → IsSeen (unit seen_way m)
 
 -- the same of any number of units
 abbrev pub ManyUnitsKeepSound : Type 0
@@ -86,21 +86,21 @@ ManyUnitsStand = (n : ℕ) (m : Machine) → IsSeen m → units seen_way n m ≡
 
 -- a request that is read, at an instant, leaves a sound machine sound
 abbrev pub StepsKeepSound : Type 0
-StepsKeepSound = (asking : Asking) (m : Machine) (message : Message) (now : ℤ) → IsSound m → IsAsked message → IsInstant now → IsSound (step asking plain_way m message now).machine
+StepsKeepSound = (searching : Searching) (m : Machine) (message : Message) (now : ℤ) → IsSound m → IsAsked message → IsInstant now → IsSound (step searching plain_way m message now).machine
 
 abbrev pub StepsKeepSeen : Type 0
-StepsKeepSeen = (asking : Asking) (m : Machine) (message : Message) (now : ℤ) → IsSeen m → IsAsked message → IsInstant now → IsSeen (step asking seen_way m message now).machine
+StepsKeepSeen = (searching : Searching) (m : Machine) (message : Message) (now : ℤ) → IsSeen m → IsAsked message → IsInstant now → IsSeen (step searching seen_way m message now).machine
 
 -- ---- a message
 
 -- what is seen of a machine is told what the machine is told, and its unit; both are left sound
-pub record MessageAlike (asking : Asking) (m : Machine) (now : ℤ) (method target body : List ℕ) : Type 0 where
-  pub told : message_told asking seen_way (see m) now method target body ≡ see_told (message_told asking plain_way m now method target body)
-  pub stepped : IsSound (message_told asking plain_way m now method target body).stepped
-  pub after : IsSound (message_told asking plain_way m now method target body).after
+pub record MessageAlike (searching : Searching) (m : Machine) (now : ℤ) (method target body : List ℕ) : Type 0 where
+  pub told : message_told searching seen_way (see m) now method target body ≡ see_told (message_told searching plain_way m now method target body)
+  pub stepped : IsSound (message_told searching plain_way m now method target body).stepped
+  pub after : IsSound (message_told searching plain_way m now method target body).after
 
 abbrev pub MessagesRefine : Type 0
-MessagesRefine = (asking : Asking) (m : Machine) (now : ℤ) (method target body : List ℕ) → IsSound m → IsInstant now → length body ≤ body_limit → MessageAlike asking m now method target body
+MessagesRefine = (searching : Searching) (m : Machine) (now : ℤ) (method target body : List ℕ) → IsSound m → IsInstant now → length body ≤ body_limit → MessageAlike searching m now method target body
 
 -- a moment line leaves an instant
 abbrev pub MomentsAreInstants : Type 0
@@ -108,12 +108,12 @@ MomentsAreInstants = (now : ℤ) (text : List ℕ) → IsInstant now → IsInsta
 
 -- ---- any list of requests, moment lines and units
 
-pub record IsSoundStanding (s : Standing) : Type 0 where
+pub record IsSoundDated (s : Dated) : Type 0 where
   pub machine : IsSound s.machine
   pub present : IsInstant s.present
 
 -- what the code holds between two turns
-pub record IsSeenStanding (s : Standing) : Type 0 where
+pub record IsSeenDated (s : Dated) : Type 0 where
   pub machine : IsSeen s.machine
   pub present : IsInstant s.present
 
@@ -128,23 +128,23 @@ IsSeenWritten (Some m) = IsSeen m
 
 -- what is seen replies what the plain machine replies, is left as what is seen of it, and writes the records of what is seen of
 -- the machine whose records it writes; and both machines are sound, the one that is left and the one that is written
-pub record TurnAlike (asking : Asking) (s : Standing) (ts : List Turn) (before : Option Machine) : Type 0 where
-  pub told : replies asking seen_way (see_standing s) ts ≡ replies asking plain_way s ts
-  pub left : behind asking seen_way (see_standing s) ts ≡ see_standing (behind asking plain_way s ts)
-  pub written : last_written asking seen_way (option_map see before) (see_standing s) ts ≡ option_map see (last_written asking plain_way before s ts)
-  pub sound : IsSoundStanding (behind asking plain_way s ts)
-  pub records : IsSoundWritten before → IsSoundWritten (last_written asking plain_way before s ts)
+pub record TurnAlike (searching : Searching) (s : Dated) (ts : List Turn) (before : Option Machine) : Type 0 where
+  pub replies : all_replies searching seen_way (see_dated s) ts ≡ all_replies searching plain_way s ts
+  pub left : left_behind searching seen_way (see_dated s) ts ≡ see_dated (left_behind searching plain_way s ts)
+  pub written : last_recorded searching seen_way (option_map see before) (see_dated s) ts ≡ option_map see (last_recorded searching plain_way before s ts)
+  pub sound : IsSoundDated (left_behind searching plain_way s ts)
+  pub records : IsSoundWritten before → IsSoundWritten (last_recorded searching plain_way before s ts)
 
 abbrev pub TurnsRefine : Type 0
-TurnsRefine = (asking : Asking) (s : Standing) (ts : List Turn) (before : Option Machine) → IsSoundStanding s → Each IsTurn ts → TurnAlike asking s ts before
+TurnsRefine = (searching : Searching) (s : Dated) (ts : List Turn) (before : Option Machine) → IsSoundDated s → Each IsTurn ts → TurnAlike searching s ts before
 
 -- what the code holds replies as the plain machine that begins as it, and is left and written as what is seen of that one
-pub record TurnStands (asking : Asking) (s : Standing) (ts : List Turn) (before : Option Machine) : Type 0 where
-  pub told : replies asking seen_way s ts ≡ replies asking plain_way s ts
-  pub left : behind asking seen_way s ts ≡ see_standing (behind asking plain_way s ts)
-  pub written : last_written asking seen_way before s ts ≡ option_map see (last_written asking plain_way before s ts)
-  pub seen : IsSeenStanding (behind asking seen_way s ts)
-  pub records : IsSeenWritten (last_written asking seen_way before s ts)
+pub record TurnStands (searching : Searching) (s : Dated) (ts : List Turn) (before : Option Machine) : Type 0 where
+  pub replies : all_replies searching seen_way s ts ≡ all_replies searching plain_way s ts
+  pub left : left_behind searching seen_way s ts ≡ see_dated (left_behind searching plain_way s ts)
+  pub written : last_recorded searching seen_way before s ts ≡ option_map see (last_recorded searching plain_way before s ts)
+  pub seen : IsSeenDated (left_behind searching seen_way s ts)
+  pub records : IsSeenWritten (last_recorded searching seen_way before s ts)
 
 abbrev pub TurnsStand : Type 0
-TurnsStand = (asking : Asking) (s : Standing) (ts : List Turn) (before : Option Machine) → IsSeenStanding s → IsSeenWritten before → Each IsTurn ts → TurnStands asking s ts before
+TurnsStand = (searching : Searching) (s : Dated) (ts : List Turn) (before : Option Machine) → IsSeenDated s → IsSeenWritten before → Each IsTurn ts → TurnStands searching s ts before

@@ -8,11 +8,11 @@ use Rattle.tsds_service.specs.Caused.{with_cause}
 use Rattle.tsds_service.specs.CausedLaws.{requests_caused}
 use Rattle.tsds_service.specs.Causes.{Cause, refused, request_cause, bad_moment}
 use Rattle.tsds_service.specs.Machine.{Machine, see, unit}
-use Rattle.tsds_service.specs.Questions.{Asking}
+use Rattle.tsds_service.specs.Questions.{Searching}
 use Rattle.tsds_service.specs.Requests.{Stepped, step}
 use Rattle.tsds_service.specs.declared.reply.Reply.{Reply}
 
--- the reply, the machine right after the step, the machine after its unit, and whether the first one's records were written
+-- the reply, the machine right after the step, the machine after its unit, and whether the stepped machine's records were written
 pub record Told : Type 0 where
   pub reply : Reply
   pub stepped : Machine
@@ -22,20 +22,21 @@ pub record Told : Type 0 where
 abbrev pub see_told : Told → Told
 see_told t = record t { stepped = see t.stepped; after = see t.after }
 
-abbrev pub told_of : Way → Stepped → Told
-told_of way s = record { reply = s.reply; stepped = s.machine; after = unit way s.machine; wrote = s.wrote }
+-- a step, and its unit
+abbrev pub with_unit : Way → Stepped → Told
+with_unit way s = record { reply = s.reply; stepped = s.machine; after = unit way s.machine; wrote = s.wrote }
 
 -- the request that a message is, or why it is none
 abbrev pub reading_of : List ℕ → List ℕ → List ℕ → Result Message Cause
 reading_of method target body = with_cause request_cause (request_of method target body) (requests_caused method target body)
 
 -- a reading that is refused leaves the moment as it was
-abbrev pub told_by : Asking → Way → Machine → ℤ → Result Message Cause → Told
-told_by asking way m now (Ok message) = told_of way (step asking way m message now)
-told_by asking way m now (Err cause) = record { reply = refused cause; stepped = m; after = unit way m; wrote = false }
+abbrev pub by_reading : Searching → Way → Machine → ℤ → Result Message Cause → Told
+by_reading searching way m now (Ok message) = with_unit way (step searching way m message now)
+by_reading searching way m now (Err cause) = record { reply = refused cause; stepped = m; after = unit way m; wrote = false }
 
-unfoldable pub message_told : Asking → Way → Machine → ℤ → List ℕ → List ℕ → List ℕ → Told
-message_told asking way m now method target body = told_by asking way m now (reading_of method target body)
+unfoldable pub message_told : Searching → Way → Machine → ℤ → List ℕ → List ℕ → List ℕ → Told
+message_told searching way m now method target body = by_reading searching way m now (reading_of method target body)
 
 -- ---- moment lines
 

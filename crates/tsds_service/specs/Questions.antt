@@ -69,7 +69,7 @@ target_of c name = with_found (stream_named name c.streams) (with_found (index_n
 
 -- How searches and counts are answered: of the present moment, the facts of the indices asked, their rows that answer, and the
 -- body of the request if it has one. What the laws say of replies they say for any way of answering.
-pub record Asking : Type 0 where
+pub record Searching : Type 0 where
   pub search : ℤ → List HeldIndex → List Offered → Option Data → Reply
   pub count : ℤ → List HeldIndex → List Offered → Option Data → Reply
 

@@ -26,7 +26,7 @@ use Rattle.tsds_service.specs.Bulk.{items_of, outcomes_of, after_items, bulk_rep
 use Rattle.tsds_service.specs.Causes as cause
 use Rattle.tsds_service.specs.Causes.{Cause, refused}
 use Rattle.tsds_service.specs.Machine.{Machine, see}
-use Rattle.tsds_service.specs.Questions.{Asking, facts_in, samples_of, target_of, get_reply}
+use Rattle.tsds_service.specs.Questions.{Searching, facts_in, samples_of, target_of, get_reply}
 use Rattle.tsds_service.specs.Replies.{ack, interval_word, stream_reply, rolled_reply, blocked_reply, ran_reply, tasks_reply}
 use Rattle.tsds_service.specs.declared.reply.Reply.{Reply}
 
@@ -41,9 +41,9 @@ see_stepped s = record s { machine = see s.machine }
 
 -- ---- answers
 
--- a reply that leaves the machine
-abbrev pub told : Machine → Reply → Stepped
-told m reply = record { reply = reply; machine = m; wrote = false }
+-- a reply that leaves the machine as it is
+abbrev pub unchanged : Machine → Reply → Stepped
+unchanged m reply = record { reply = reply; machine = m; wrote = false }
 
 -- a reply, and another catalogue
 abbrev pub changed : Machine → Reply → PlainCatalog → Stepped
@@ -52,7 +52,7 @@ changed m reply catalog = record { reply = reply; machine = record m { catalog =
 -- where there is a cause it is told and all stays
 abbrev pub unless : Option Cause → Machine → Stepped → Stepped
 unless None m answer = answer
-unless (Some c) m answer = told m (refused c)
+unless (Some c) m answer = unchanged m (refused c)
 
 -- ---- causes of what a catalogue refuses
 
@@ -94,7 +94,7 @@ caused a refusal = option_map (catalog_cause a) refusal
 -- ---- templates and streams
 
 abbrev pub put_template : Machine → List ℕ → Data → Option Fault → Stepped
-put_template m name body (Some fault) = told m (refused (cause.bad_template fault.kind fault.path))
+put_template m name body (Some fault) = unchanged m (refused (cause.bad_template fault.kind fault.path))
 put_template m name body None =
     unless (caused (about_name name) (template_refusal (facts_of m.catalog) (template_of name body))) m
     (changed m ack (template_put m.catalog (template_of name body)))
@@ -104,7 +104,7 @@ put_stream m name =
     unless (caused (about_name name) (create_refusal (facts_of m.catalog) name m.now)) m (changed m ack (created m.catalog name m.now))
 
 abbrev pub get_stream : Machine → List ℕ → Stepped
-get_stream m name = with_found (stream_named name m.catalog.streams) (told m (refused (cause.no_such_name name))) (λ s. told m (stream_reply (facts_of m.catalog) s))
+get_stream m name = with_found (stream_named name m.catalog.streams) (unchanged m (refused (cause.no_such_name name))) (λ s. unchanged m (stream_reply (facts_of m.catalog) s))
 
 abbrev pub delete_stream : Machine → List ℕ → Stepped
 delete_stream m name = unless (caused (about_name name) (named_refusal (facts_of m.catalog) name)) m (changed m ack (stream_deleted m.catalog name))
@@ -122,7 +122,7 @@ rollover m name =
 abbrev pub put_lifecycle : Machine → List ℕ → Data → Stepped
 put_lifecycle m name body =
     unless (caused (about_name name) (named_refusal (facts_of m.catalog) name)) m
-    (with_found (lifecycle_of body) (told m (refused cause.bad_body)) (λ life. changed m ack (life_set m.catalog name life)))
+    (with_found (lifecycle_of body) (unchanged m (refused cause.bad_body)) (λ life. changed m ack (life_set m.catalog name life)))
 
 -- ---- indices
 
@@ -144,34 +144,34 @@ abbrev pub fold_names_refusal : PlainFacts → List ℕ → List ℕ → Option 
 fold_names_refusal f source target = on_found (facts_named source f.indices) (of_catalog.NoSuchName source) (λ i. when (is_taken target f) (of_catalog.NameTaken target))
 
 abbrev pub downsample_by : Way → Machine → List ℕ → List ℕ → Option Interval → Stepped
-downsample_by way m source target None = unless (caused (about_name target) (fold_names_refusal (facts_of m.catalog) source target)) m (told m (refused cause.bad_body))
+downsample_by way m source target None = unless (caused (about_name target) (fold_names_refusal (facts_of m.catalog) source target)) m (unchanged m (refused cause.bad_body))
 downsample_by way m source target (Some by) =
     unless (caused (about_fold (facts_of m.catalog) source target by) (downsample_refusal (facts_of m.catalog) source target by)) m
     (changed m ack (downsampled way m.catalog source target by))
 
 abbrev pub modify : Machine → Data → Stepped
 modify m body =
-    with_found (moves_of body) (told m (refused cause.bad_body)) (λ moves.
+    with_found (moves_of body) (unchanged m (refused cause.bad_body)) (λ moves.
     unless (caused (about_name []) (moves_refusal (facts_of m.catalog) moves)) m (changed m ack (moved_all m.catalog moves)))
 
 -- ---- documents
 
 abbrev pub bulk : Way → Machine → Result (List Item) Cause → Stepped
-bulk way m (Err cause) = told m (refused cause)
+bulk way m (Err cause) = unchanged m (refused cause)
 bulk way m (Ok items) = changed m (bulk_reply items (outcomes_of way m.catalog items)) (after_items way m.catalog items)
 
 -- ---- questions
 
-abbrev pub search : Asking → Way → Machine → List ℕ → Option Data → Stepped
-search asking way m name body =
-    told m (with_found (target_of m.catalog name) (refused (cause.no_such_name name)) (λ is. asking.search m.now (facts_in is) (samples_of way is) body))
+abbrev pub search : Searching → Way → Machine → List ℕ → Option Data → Stepped
+search searching way m name body =
+    unchanged m (with_found (target_of m.catalog name) (refused (cause.no_such_name name)) (λ is. searching.search m.now (facts_in is) (samples_of way is) body))
 
-abbrev pub count : Asking → Way → Machine → List ℕ → Option Data → Stepped
-count asking way m name body =
-    told m (with_found (target_of m.catalog name) (refused (cause.no_such_name name)) (λ is. asking.count m.now (facts_in is) (samples_of way is) body))
+abbrev pub count : Searching → Way → Machine → List ℕ → Option Data → Stepped
+count searching way m name body =
+    unchanged m (with_found (target_of m.catalog name) (refused (cause.no_such_name name)) (λ is. searching.count m.now (facts_in is) (samples_of way is) body))
 
 abbrev pub get_document : Way → Machine → List ℕ → List ℕ → Stepped
-get_document way m n id = told m (with_found (index_named n m.catalog.indices) (refused (cause.no_such_name n)) (λ i. get_reply way i id))
+get_document way m n id = unchanged m (with_found (index_named n m.catalog.indices) (refused (cause.no_such_name n)) (λ i. get_reply way i id))
 
 -- ---- tasks and records
 
@@ -180,29 +180,29 @@ run_lifecycle m = let run = lifecycle_run m.catalog m.now in changed m (ran_repl
 
 -- the image of the machine is written, where it keeps records
 abbrev pub flush : Machine → Stepped
-flush m = if m.kept then record { reply = ack; machine = m; wrote = true } else told m (refused cause.no_data)
+flush m = if m.kept then record { reply = ack; machine = m; wrote = true } else unchanged m (refused cause.no_data)
 
 -- ---- all requests
 
-abbrev pub step_of : Asking → Way → Machine → Message → Stepped
-step_of asking way m (asked.put_template name body) = put_template m name body (refusal_of body)
-step_of asking way m (asked.put_stream name) = put_stream m name
-step_of asking way m (asked.get_stream name) = get_stream m name
-step_of asking way m (asked.delete_stream name) = delete_stream m name
-step_of asking way m (asked.bulk path body) = bulk way m (items_of path body)
-step_of asking way m (asked.rollover name) = rollover m name
-step_of asking way m (asked.block n) = block m n
-step_of asking way m (asked.downsample source target body) = downsample_by way m source target (fixed_interval_of body)
-step_of asking way m (asked.modify body) = modify m body
-step_of asking way m (asked.delete_index n) = delete_index m n
-step_of asking way m (asked.put_lifecycle name body) = put_lifecycle m name body
-step_of asking way m asked.run_lifecycle = run_lifecycle m
-step_of asking way m asked.tasks = told m (tasks_reply m.catalog)
-step_of asking way m (asked.search_rows name body) = search asking way m name body
-step_of asking way m (asked.count_rows name body) = count asking way m name body
-step_of asking way m (asked.get_doc n id) = get_document way m n id
-step_of asking way m asked.flush = flush m
+abbrev pub step_of : Searching → Way → Machine → Message → Stepped
+step_of searching way m (asked.put_template name body) = put_template m name body (refusal_of body)
+step_of searching way m (asked.put_stream name) = put_stream m name
+step_of searching way m (asked.get_stream name) = get_stream m name
+step_of searching way m (asked.delete_stream name) = delete_stream m name
+step_of searching way m (asked.bulk path body) = bulk way m (items_of path body)
+step_of searching way m (asked.rollover name) = rollover m name
+step_of searching way m (asked.block n) = block m n
+step_of searching way m (asked.downsample source target body) = downsample_by way m source target (fixed_interval_of body)
+step_of searching way m (asked.modify body) = modify m body
+step_of searching way m (asked.delete_index n) = delete_index m n
+step_of searching way m (asked.put_lifecycle name body) = put_lifecycle m name body
+step_of searching way m asked.run_lifecycle = run_lifecycle m
+step_of searching way m asked.tasks = unchanged m (tasks_reply m.catalog)
+step_of searching way m (asked.search_rows name body) = search searching way m name body
+step_of searching way m (asked.count_rows name body) = count searching way m name body
+step_of searching way m (asked.get_doc n id) = get_document way m n id
+step_of searching way m asked.flush = flush m
 
 -- the moment becomes the present, whatever is replied
-unfoldable pub step : Asking → Way → Machine → Message → ℤ → Stepped
-step asking way m message now = step_of asking way (record m { now = now }) message
+unfoldable pub step : Searching → Way → Machine → Message → ℤ → Stepped
+step searching way m message now = step_of searching way (record m { now = now }) message

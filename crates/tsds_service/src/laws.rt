@@ -1,6 +1,6 @@
 //! The laws that tie a plain machine to what is seen of it, for crates above.
-ghost use Rattle.tsds_service.specs.Laws.{SamplesStay, SeenAgain, StepsRefine, StepsStand, UnitsRefine, UnitsStand};
-ghost use Rattle.tsds_service.specs.Laws.{EmptyIsSeen, ManyUnitsKeepSeen, ManyUnitsKeepSound, ManyUnitsRefine, ManyUnitsStand, StepsKeepSeen, StepsKeepSound, UnitsKeepSeen, UnitsKeepSound};
+ghost use Rattle.tsds_service.specs.Laws.{SamplesStay, MachinesSeenAgain, StepsRefine, StepsStand, UnitsRefine, UnitsStand};
+ghost use Rattle.tsds_service.specs.Laws.{EmptyIsSeen, ManyUnitsKeepSeen, ManyUnitsKeepSound, ManyUnitsRefine, ManyUnitsStand, StepsKeepSeen, StepsKeepSound, OneUnitKeepsSeen, OneUnitKeepsSound};
 ghost use Rattle.tsds_service.specs.Laws.{CausesStand, MessagesRefine, MomentsAreInstants, TargetsAgree, TurnsRefine, TurnsStand};
 
 use stream_catalog::{
@@ -11,7 +11,7 @@ use ts_mapping::bodies_are_templates;
 
 /// What is seen of a sound machine is sound, and seen again itself.
 pub fn machines_are_seen()
-    ensures { SeenAgain }
+    ensures { MachinesSeenAgain }
 {
     names_keep();
     seen_again();
@@ -61,8 +61,8 @@ pub fn machines_begin()
 
 /// A unit leaves a sound machine sound, and one that is seen again itself so too.
 pub fn units_keep()
-    ensures sound { UnitsKeepSound }
-    ensures seen { UnitsKeepSeen }
+    ensures sound { OneUnitKeepsSound }
+    ensures seen { OneUnitKeepsSeen }
 {
     names_keep();
     changes_keep_sound();
