@@ -114,13 +114,13 @@ pub put_between : times_of (put_into seen_way (see_catalog (two false None [])) 
 put_between = refl
 
 -- which member takes a time
-pub picked : picked_by (facts_of (two false None [])) (stream None) (pos 10000) ≡ Ok (codes "b")
+pub picked : picked_by (two false None []) (stream None) (pos 10000) ≡ Ok (record { facts = new_facts; rows = [] })
 picked = refl
 
-pub not_picked : picked_by (facts_of (two false None [])) (stream None) (pos 20000) ≡ Err NoWindow
+pub not_picked : picked_by (two false None []) (stream None) (pos 20000) ≡ Err NoWindow
 not_picked = refl
 
-pub picked_blocked : picked_by (facts_of (two true None [])) (stream None) (pos 9999) ≡ Err Blocked
+pub picked_blocked : picked_by (two true None []) (stream None) (pos 9999) ≡ Err Blocked
 picked_blocked = refl
 
 -- refusals of folds, in their order

@@ -1,8 +1,9 @@
 -- Lists of things that have names, and tests one after another.
 use Rattle.std.specs.Prelude.{ℕ, Bool, true, false, not, List, [], ◌∷◌, filter, Option, Some, None, if◌then◌else◌, bytes_eq}
+use Rattle.std.specs.List.{filter_map}
 use Rattle.std.specs.Ordering.{is_le, nat_cmp}
 use Rattle.std.specs.Cmp.Lexicographic.{slice_cmp}
-use Rattle.stream_catalog.specs.Plain.{PlainIndex, PlainStream}
+use Rattle.stream_catalog.specs.Plain.{PlainIndex, PlainStream, PlainCatalog}
 use Rattle.stream_catalog.specs.declared.answers.Refusal.{Refusal}
 use Rattle.stream_catalog.specs.declared.facts.HeldIndex.{HeldIndex}
 use Rattle.ts_mapping.specs.declared.templates.Template.{Template}
@@ -75,3 +76,7 @@ facts_named = found_by facts_name
 
 abbrev pub index_named : List ℕ → List PlainIndex → Option PlainIndex
 index_named = found_by index_name
+
+-- the members of a stream
+abbrev pub members_of : PlainCatalog → PlainStream → List PlainIndex
+members_of c s = filter_map (λ n. index_named n c.indices) s.facts.members

@@ -5,9 +5,9 @@ use Rattle.row_cells.specs.declared.rows.Row.{Row}
 use Rattle.stream_catalog.specs.declared.answers.PickError.{PickError}
 use Rattle.stream_catalog.specs.declared.answers.PickError.TheVariants.{NoWindow, Blocked}
 use Rattle.stream_catalog.specs.declared.facts.HeldIndex.{HeldIndex}
-use Rattle.stream_catalog.specs.Plain.{PlainStream, PlainCatalog, PlainFacts}
+use Rattle.stream_catalog.specs.Plain.{PlainIndex, PlainStream, PlainCatalog}
 use Rattle.stream_catalog.specs.Ways.{Way}
-use Rattle.stream_catalog.specs.Lists.{with_found, updated, index_name, facts_named}
+use Rattle.stream_catalog.specs.Lists.{updated, index_name, members_of}
 use Rattle.row_cells.specs.KeyedRows.{IsRowOf}
 use Rattle.row_cells.specs.Limits.{most_documents}
 use Rattle.row_cells.specs.RowLists.{has_place}
@@ -17,16 +17,16 @@ abbrev pub has_time : HeldIndex → ℤ → Bool
 has_time i t = int_le i.start t && int_lt t i.end
 
 -- the member whose window has a time
-abbrev pub member_at : PlainFacts → ℤ → PlainStream → Option (List ℕ)
-member_at f t s = find (λ m. with_found (facts_named m f.indices) false (λ i. has_time i t)) s.facts.members
+abbrev pub member_at : PlainCatalog → ℤ → PlainStream → Option PlainIndex
+member_at c t s = find (λ i. has_time i.facts t) (members_of c s)
 
-abbrev pub picked_from : Option HeldIndex → Result (List ℕ) PickError
+abbrev pub picked_from : Option PlainIndex → Result PlainIndex PickError
 picked_from None = Err NoWindow
-picked_from (Some i) = if i.blocked then Err Blocked else Ok i.name
+picked_from (Some i) = if i.facts.blocked then Err Blocked else Ok i
 
 -- the member that takes a document of a time
-abbrev pub picked_by : PlainFacts → PlainStream → ℤ → Result (List ℕ) PickError
-picked_by f s t = with_found (member_at f t s) (Err NoWindow) (λ m. picked_from (facts_named m f.indices))
+abbrev pub picked_by : PlainCatalog → PlainStream → ℤ → Result PlainIndex PickError
+picked_by c s t = picked_from (member_at c t s)
 
 abbrev pub is_full : List Row → Bool
 is_full rows = nat_le most_documents (length rows)

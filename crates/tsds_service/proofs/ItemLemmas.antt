@@ -1,5 +1,5 @@
 -- Items come to the same on both sides.
-use Rattle.std.specs.Prelude.{◌≡◌, ℕ, ℤ, Bool, true, false, nat_le, bytes_eq, List, [], ◌∷◌, length, Option, Some, None, Result, Ok, Err, option_and_then, unwrap_or, if◌then◌else◌}
+use Rattle.std.specs.Prelude.{◌≡◌, ℕ, ℤ, Bool, true, false, nat_le, bytes_eq, List, [], ◌∷◌, length, Option, Some, None, Result, Ok, Err, option_and_then, if◌then◌else◌}
 use Rattle.std.specs.Option.{option_map}
 use Rattle.std.proofs.Common.{refl, ap, ◌∙◌, sym, subst}
 use Rattle.std.proofs.lemmas.Bool.{both_ways}
@@ -15,19 +15,17 @@ use Rattle.serde_json.specs.Data.{Data}
 use Rattle.series_id.specs.Ids.{id_of}
 use Rattle.stream_catalog.specs.Laws.{IsShut, ShowsPuts, FindsPlace}
 use Rattle.stream_catalog.specs.Lists.{with_found, stream_named, index_named}
-use Rattle.stream_catalog.specs.Plain.{PlainIndex, PlainStream, PlainCatalog, facts_of}
-use Rattle.stream_catalog.specs.Puts.{is_full, member_at, picked_by}
+use Rattle.stream_catalog.specs.Plain.{PlainIndex, PlainStream, PlainCatalog}
+use Rattle.stream_catalog.specs.Puts.{is_full, member_at}
 use Rattle.stream_catalog.specs.Ways.{shown_by, plain_way, seen_way, see_index, see_catalog}
-use Rattle.stream_catalog.specs.declared.answers.PickError.{PickError}
-use Rattle.stream_catalog.specs.declared.answers.PickError.TheVariants.{NoWindow, Blocked}
 use Rattle.synthetic_source.specs.Document.{document_cells}
 use Rattle.synthetic_source.specs.Faults.{time_of}
 use Rattle.synthetic_source.specs.declared.errors.DocKind.{DocKind}
 use Rattle.time_text.specs.declared.intervals.Interval.{Interval}
 use Rattle.tsds_service.specs.Bulk.{Outcome, taken, barred, key_of, by_place, by_key, by_cells, by_index, by_pick, by_time, by_document, by_stream, by_action, item_outcome, after_outcome, after_item, outcomes_of, after_items}
-use Rattle.tsds_service.specs.Causes.{ItemCause, conflict, full, blocked, outside, no_stream, no_object}
+use Rattle.tsds_service.specs.Causes.{ItemCause, conflict, full, blocked, no_stream, no_object}
 use Rattle.tsds_service.proofs.CatalogLaws.{CatalogLaws}
-use Rattle.tsds_service.proofs.PickLemmas.{picked_open}
+use Rattle.tsds_service.proofs.PickLemmas.{member-see, member_found}
 use Rattle.row_cells.specs.Limits.{most_documents}
 
 -- ---- look-ups in lists of indices
@@ -85,21 +83,19 @@ module _ (laws : CatalogLaws) where
   -- ---- an item
 
   module _ (c : PlainCatalog) (shows : Each ShowsPuts c.indices) where
-    pick-see : (s : PlainStream) (time : ℤ) (d : Data) (pick : Result (List ℕ) PickError) → picked_by (facts_of c) s time ≡ pick → by_pick (see_catalog c) s time d pick ≡ by_pick c s time d pick
-    pick-see s time d (Err NoWindow) picked = refl
-    pick-see s time d (Err Blocked) picked = ap (λ f. barred (blocked (unwrap_or (member_at f time s) []))) (laws.facts c)
-    pick-see s time d (Ok n) picked =
-        ap (λ o. with_found o (barred (outside time)) (λ i. by_index n i time d)) (laws.lookups c n) ∙ by_found (index_named n c.indices) refl
+    pick-see : (s : PlainStream) (time : ℤ) (d : Data) (pick : Option PlainIndex) → member_at c time s ≡ pick → by_pick time d (option_map see_index pick) ≡ by_pick time d pick
+    pick-see s time d None picked = refl
+    pick-see s time d (Some i) picked = by_test i.facts.blocked refl
       where
-        by_found : (o : Option PlainIndex) → index_named n c.indices ≡ o →
-            with_found (option_map see_index o) (barred (outside time)) (λ i. by_index n i time d) ≡ with_found o (barred (outside time)) (λ i. by_index n i time d)
-        by_found None found = refl
-        by_found (Some i) found = index-see n i time d (each_named ShowsPuts n c.indices i found shows) (picked_open c s time n i picked found)
+        by_test : (b : Bool) → i.facts.blocked ≡ b →
+            (if b then barred (blocked i.facts.name) else by_index i.facts.name (see_index i) time d) ≡ (if b then barred (blocked i.facts.name) else by_index i.facts.name i time d)
+        by_test true shut = refl
+        by_test false takes = index-see i.facts.name i time d (each_named ShowsPuts i.facts.name c.indices i (member_found c s time i picked).there shows) takes
 
     time-see : (s : PlainStream) (d : Data) (time : Option ℤ) → by_time (see_catalog c) s d time ≡ by_time c s d time
     time-see s d None = refl
     time-see s d (Some time) =
-        ap (λ f. by_pick (see_catalog c) s time d (picked_by f s time)) (laws.facts c) ∙ pick-see s time d (picked_by (facts_of c) s time) refl
+        ap (by_pick time d) (member-see laws.lookups c time s) ∙ pick-see s time d (member_at c time s) refl
 
     stream-see : (name : List ℕ) (source : Option (List ℕ)) → by_stream (see_catalog c) name source ≡ by_stream c name source
     stream-see name source = by_found (stream_named name c.streams) (option_and_then object_of source)
@@ -143,21 +139,20 @@ module _ (laws : CatalogLaws) where
     cells_found m i time (Ok cells) found takes is = key_found m i time cells (key_of i.facts.mapping.schema cells) found takes is
     cells_found m i time (Err fault) found takes is = absurd (barred_not is)
 
-    pick_found : (s : PlainStream) (time : ℤ) (d : Data) (pick : Result (List ℕ) PickError) → picked_by (facts_of c) s time ≡ pick → by_pick c s time d pick ≡ taken n row → FindsPlace c n row
-    pick_found s time d (Err NoWindow) picked is = absurd (barred_not is)
-    pick_found s time d (Err Blocked) picked is = absurd (barred_not is)
-    pick_found s time d (Ok m) picked is = by_found (index_named m c.indices) refl is
+    pick_found : (s : PlainStream) (time : ℤ) (d : Data) (pick : Option PlainIndex) → member_at c time s ≡ pick → by_pick time d pick ≡ taken n row → FindsPlace c n row
+    pick_found s time d None picked is = absurd (barred_not is)
+    pick_found s time d (Some i) picked is = by_test i.facts.blocked refl is
       where
-        by_found : (o : Option PlainIndex) → index_named m c.indices ≡ o → with_found o (barred (outside time)) (λ i. by_index m i time d) ≡ taken n row → FindsPlace c n row
-        by_found None found is = absurd (barred_not is)
-        by_found (Some i) found is = cells_found m i time (document_cells i.facts.mapping.schema i.facts.mapping.strict d) found (picked_open c s time m i picked found) is
+        by_test : (b : Bool) → i.facts.blocked ≡ b → (if b then barred (blocked i.facts.name) else by_index i.facts.name i time d) ≡ taken n row → FindsPlace c n row
+        by_test true shut is = absurd (barred_not is)
+        by_test false takes is = cells_found i.facts.name i time (document_cells i.facts.mapping.schema i.facts.mapping.strict d) (member_found c s time i picked).there takes is
 
     stream_found : (name : List ℕ) (source : Option (List ℕ)) → by_stream c name source ≡ taken n row → FindsPlace c n row
     stream_found name source is = by_found (stream_named name c.streams) (option_and_then object_of source) is
       where
         of_time : (s : PlainStream) (d : Data) (time : Option ℤ) → by_time c s d time ≡ taken n row → FindsPlace c n row
         of_time s d None is = absurd (barred_not is)
-        of_time s d (Some time) is = pick_found s time d (picked_by (facts_of c) s time) refl is
+        of_time s d (Some time) is = pick_found s time d (member_at c time s) refl is
 
         by_found : (o : Option PlainStream) (tree : Option Data) →
             with_found o (barred (no_stream name)) (λ s. with_found tree (barred no_object) (by_document c s)) ≡ taken n row → FindsPlace c n row

@@ -5,11 +5,11 @@ mod ItemLemmas
 mod SourceLemmas
 mod TakesLemmas
 mod TargetLemmas
+mod OrderLemmas
 mod StepLemmas
 mod MachineLemmas
 mod SoundLemmas
 mod UnitLemmas
 mod TurnLemmas
-mod OrderLemmas
 mod GivenUpLemmas
 mod MessageLemmas

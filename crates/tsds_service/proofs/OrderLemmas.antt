@@ -8,29 +8,19 @@ use Rattle.row_cells.specs.Each.{Each}
 use Rattle.row_cells.specs.EachLaws.{Each-weaker}
 use Rattle.stream_catalog.specs.FoundLaws.{StreamsFound}
 use Rattle.stream_catalog.specs.Laws.{FoundIsHeld, LookupsStay}
-use Rattle.stream_catalog.specs.Lists.{with_found, stream_named, facts_named, index_named}
+use Rattle.stream_catalog.specs.Lists.{with_found, stream_named, facts_named, index_named, members_of}
 use Rattle.stream_catalog.specs.Plain.{PlainIndex, PlainStream, PlainCatalog, facts_of}
 use Rattle.stream_catalog.specs.Sound.{EndsBefore, WindowsFollow}
 use Rattle.stream_catalog.specs.Ways.{see_index, see_catalog}
 use Rattle.stream_catalog.specs.declared.facts.HeldIndex.{HeldIndex}
-use Rattle.tsds_service.specs.Questions.{members_of, target_of}
+use Rattle.tsds_service.specs.Questions.{target_of}
 use Rattle.tsds_service.specs.TargetLaws.{TargetsStay, StartsAscend, TargetsAscend}
 use Rattle.tsds_service.proofs.ItemLemmas.{none_not_some, some_is}
-use Rattle.tsds_service.proofs.PickLemmas.{facts-index}
+use Rattle.tsds_service.proofs.PickLemmas.{facts-index, members-see}
 
 -- ---- what is seen of a target
 
 module _ (lookups : LookupsStay) (c : PlainCatalog) where
-  members-see : (ns : List (List ℕ)) → filter_map (λ n. index_named n (see_catalog c).indices) ns ≡ map see_index (filter_map (λ n. index_named n c.indices) ns)
-  members-see [] = refl
-  members-see (n ∷ ns) =
-      ap (λ o. cons_option o (filter_map (λ m. index_named m (see_catalog c).indices) ns)) (lookups c n) ∙ by_found (index_named n c.indices) (members-see ns)
-    where
-      by_found : (o : Option PlainIndex) → filter_map (λ m. index_named m (see_catalog c).indices) ns ≡ map see_index (filter_map (λ m. index_named m c.indices) ns)
-          → cons_option (option_map see_index o) (filter_map (λ m. index_named m (see_catalog c).indices) ns) ≡ map see_index (cons_option o (filter_map (λ m. index_named m c.indices) ns))
-      by_found None later = later
-      by_found (Some i) later = ap (λ is. see_index i ∷ is) later
-
   target-see : (name : List ℕ) → target_of (see_catalog c) name ≡ option_map (map see_index) (target_of c name)
   target-see name = by_stream (stream_named name c.streams)
     where
@@ -44,7 +34,7 @@ module _ (lookups : LookupsStay) (c : PlainCatalog) where
       by_stream : (o : Option PlainStream) → with_found o (alone (index_named name (see_catalog c).indices)) (λ s. Some (members_of (see_catalog c) s))
           ≡ option_map (map see_index) (with_found o (alone (index_named name c.indices)) (λ s. Some (members_of c s)))
       by_stream None = ap alone (lookups c name) ∙ by_index (index_named name c.indices)
-      by_stream (Some s) = ap (λ (is : List PlainIndex). Some is) (members-see s.facts.members)
+      by_stream (Some s) = ap (λ (is : List PlainIndex). Some is) (members-see lookups c s.facts.members)
 
 pub targets_stay : LookupsStay → TargetsStay
 targets_stay lookups c name = target-see lookups c name

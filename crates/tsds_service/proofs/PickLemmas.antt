@@ -1,15 +1,15 @@
--- The index that is picked for a document takes documents.
-use Rattle.std.specs.Prelude.{◌≡◌, ℕ, ℤ, Bool, true, false, cond, bytes_eq, List, [], ◌∷◌, map, Option, Some, None, Result, Ok, Err, if◌then◌else◌}
-use Rattle.std.specs.List.{find}
+-- The member whose window has a time: it is found again by its own name, and is the same in what is seen.
+use Rattle.std.specs.Prelude.{◌≡◌, ℕ, ℤ, Bool, true, false, cond, bytes_eq, List, [], ◌∷◌, map, Option, Some, None, if◌then◌else◌}
+use Rattle.std.specs.List.{cons_option, filter_map, find}
 use Rattle.std.specs.Option.{option_map}
-use Rattle.std.proofs.Common.{refl, ap, ◌∙◌, sym, subst, Decides}
+use Rattle.std.proofs.Common.{refl, ap, ◌∙◌, subst, Decides}
 use Rattle.std.proofs.lemmas.Slice.Eq.{bytes_eq-Decides}
-use Rattle.stream_catalog.specs.Lists.{with_found, facts_named, index_named}
-use Rattle.stream_catalog.specs.Plain.{PlainIndex, PlainStream, PlainCatalog, facts_of}
-use Rattle.stream_catalog.specs.Puts.{has_time, member_at, picked_from, picked_by}
-use Rattle.stream_catalog.specs.declared.answers.PickError.{PickError}
-use Rattle.stream_catalog.specs.declared.answers.PickError.TheVariants.{NoWindow, Blocked}
-use Rattle.stream_catalog.specs.declared.facts.HeldIndex.{HeldIndex}
+use Rattle.row_cells.specs.Each.{Each}
+use Rattle.stream_catalog.specs.Laws.{LookupsStay}
+use Rattle.stream_catalog.specs.Lists.{facts_named, index_named, members_of}
+use Rattle.stream_catalog.specs.Plain.{PlainIndex, PlainStream, PlainCatalog}
+use Rattle.stream_catalog.specs.Puts.{has_time, member_at}
+use Rattle.stream_catalog.specs.Ways.{see_index, see_catalog}
 
 none_not_some : {A : Type 0} {a : A} → None ≡ Some a → ⊥
 none_not_some e = cc
@@ -17,22 +17,13 @@ none_not_some e = cc
 some_is : {A : Type 0} {a b : A} → Some a ≡ Some b → a ≡ b
 some_is e = cc
 
-err_not_ok : {e : PickError} {n : List ℕ} → Err e ≡ Ok n → ⊥
-err_not_ok e = cc
-
-abbrev picked_as : List ℕ → Result (List ℕ) PickError
-picked_as n = Ok n
-
-ok_is : {m n : List ℕ} → picked_as m ≡ picked_as n → m ≡ n
-ok_is e = cc
-
 -- what is found of a name has it
-named_as : (n : List ℕ) (fs : List HeldIndex) (f : HeldIndex) → facts_named n fs ≡ Some f → f.name ≡ n
-named_as n [] f found = absurd (none_not_some found)
-named_as n (g ∷ gs) f found = by_test (bytes_eq g.name n) (bytes_eq-Decides g.name n) found (named_as n gs f)
+named_as : (n : List ℕ) (is : List PlainIndex) (i : PlainIndex) → index_named n is ≡ Some i → i.facts.name ≡ n
+named_as n [] i found = absurd (none_not_some found)
+named_as n (j ∷ js) i found = by_test (bytes_eq j.facts.name n) (bytes_eq-Decides j.facts.name n) found (named_as n js i)
   where
-    by_test : (b : Bool) → Decides b (g.name ≡ n) → (if b then Some g else facts_named n gs) ≡ Some f → (facts_named n gs ≡ Some f → f.name ≡ n) → f.name ≡ n
-    by_test true same found later = subst (λ (h : HeldIndex). h.name ≡ n) (some_is found) (same.0 refl)
+    by_test : (b : Bool) → Decides b (j.facts.name ≡ n) → (if b then Some j else index_named n js) ≡ Some i → (index_named n js ≡ Some i → i.facts.name ≡ n) → i.facts.name ≡ n
+    by_test true same found later = subst (λ (k : PlainIndex). k.facts.name ≡ n) (some_is found) (same.0 refl)
     by_test false other found later = later found
 
 pub facts-index : (n : List ℕ) (is : List PlainIndex) → facts_named n (map (λ i. i.facts) is) ≡ option_map (λ i. i.facts) (index_named n is)
@@ -44,53 +35,57 @@ facts-index n (i ∷ is) = by_test (bytes_eq i.facts.name n) (facts-index n is)
     by_test true later = refl
     by_test false later = later
 
--- what is found passes the test
-found_passes : {A : Type 0} (p : A → Bool) (xs : List A) (x : A) → find p xs ≡ Some x → p x ≡ true
-found_passes p [] x found = absurd (none_not_some found)
-found_passes {A} p (y ∷ ys) x found = by_test (p y) refl found (found_passes p ys x)
+-- ---- members in what is seen
+
+pub members-see : LookupsStay → (c : PlainCatalog) (ns : List (List ℕ)) → filter_map (λ n. index_named n (see_catalog c).indices) ns ≡ map see_index (filter_map (λ n. index_named n c.indices) ns)
+members-see lookups c [] = refl
+members-see lookups c (n ∷ ns) = ap (λ o. cons_option o (filter_map (λ k. index_named k (see_catalog c).indices) ns)) (lookups c n) ∙ by_found (index_named n c.indices) (members-see lookups c ns)
   where
-    by_test : (b : Bool) → p y ≡ b → cond b (Some y) (find p ys) ≡ Some x → (find p ys ≡ Some x → p x ≡ true) → p x ≡ true
-    by_test true is found later = subst (λ z. p z ≡ true) (some_is found) is
-    by_test false is found later = later found
+    by_found : (o : Option PlainIndex) → filter_map (λ k. index_named k (see_catalog c).indices) ns ≡ map see_index (filter_map (λ k. index_named k c.indices) ns) →
+        cons_option (option_map see_index o) (filter_map (λ k. index_named k (see_catalog c).indices) ns) ≡ map see_index (cons_option o (filter_map (λ k. index_named k c.indices) ns))
+    by_found None later = later
+    by_found (Some i) later = ap (λ is. see_index i ∷ is) later
 
-module _ (c : PlainCatalog) (n : List ℕ) (i : PlainIndex) (there : index_named n c.indices ≡ Some i) where
-  held_open : (m : List ℕ) (f : HeldIndex) → facts_named m (facts_of c).indices ≡ Some f → (b : Bool) → f.blocked ≡ b → (if b then Err Blocked else Ok f.name) ≡ Ok n → i.facts.blocked ≡ false
-  held_open m f found true shut is = absurd (err_not_ok is)
-  held_open m f found false takes is =
-      let name : m ≡ n = sym (named_as m (facts_of c).indices f found) ∙ ok_is is in
-      let here : facts_named n (facts_of c).indices ≡ Some i.facts = facts-index n c.indices ∙ ap (option_map (λ (j : PlainIndex). j.facts)) there in
-      let same : f ≡ i.facts = some_is (sym found ∙ (ap (λ k. facts_named k (facts_of c).indices) name ∙ here)) in
-      subst (λ (h : HeldIndex). h.blocked ≡ false) same takes
+-- the first whose window has a time
+abbrev at : ℤ → List PlainIndex → Option PlainIndex
+at time is = find (λ i. has_time i.facts time) is
 
-  -- what is told of the member by its facts is told of the index
-  held_within : (time : ℤ) (m : List ℕ) (f : HeldIndex) → facts_named m (facts_of c).indices ≡ Some f → has_time f time ≡ true → (b : Bool) → (if b then Err Blocked else Ok f.name) ≡ Ok n → has_time i.facts time ≡ true
-  held_within time m f found within true is = absurd (err_not_ok is)
-  held_within time m f found within false is =
-      let name : m ≡ n = sym (named_as m (facts_of c).indices f found) ∙ ok_is is in
-      let here : facts_named n (facts_of c).indices ≡ Some i.facts = facts-index n c.indices ∙ ap (option_map (λ (j : PlainIndex). j.facts)) there in
-      let same : f ≡ i.facts = some_is (sym found ∙ (ap (λ k. facts_named k (facts_of c).indices) name ∙ here)) in
-      subst (λ (h : HeldIndex). has_time h time ≡ true) same within
+at-see : (time : ℤ) (is : List PlainIndex) → at time (map see_index is) ≡ option_map see_index (at time is)
+at-see time [] = refl
+at-see time (i ∷ is) = by_test (has_time i.facts time) (at-see time is)
+  where
+    by_test : (b : Bool) → at time (map see_index is) ≡ option_map see_index (at time is) → cond b (Some (see_index i)) (at time (map see_index is)) ≡ option_map see_index (cond b (Some i) (at time is))
+    by_test true later = refl
+    by_test false later = later
 
-  member_within : (time : ℤ) (m : List ℕ) (o : Option HeldIndex) → facts_named m (facts_of c).indices ≡ o → with_found o false (λ f. has_time f time) ≡ true → picked_from o ≡ Ok n → has_time i.facts time ≡ true
-  member_within time m None found within is = absurd (err_not_ok is)
-  member_within time m (Some f) found within is = held_within time m f found within f.blocked is
+pub member-see : LookupsStay → (c : PlainCatalog) (time : ℤ) (s : PlainStream) → member_at (see_catalog c) time s ≡ option_map see_index (member_at c time s)
+member-see lookups c time s = ap (at time) (members-see lookups c s.facts.members) ∙ at-see time (members_of c s)
 
-  picked_from_within : (time : ℤ) (members : List (List ℕ)) (o : Option (List ℕ)) → find (λ m. with_found (facts_named m (facts_of c).indices) false (λ f. has_time f time)) members ≡ o
-      → with_found o (Err NoWindow) (λ m. picked_from (facts_named m (facts_of c).indices)) ≡ Ok n → has_time i.facts time ≡ true
-  picked_from_within time members None there is = absurd (err_not_ok is)
-  picked_from_within time members (Some m) there is =
-      member_within time m (facts_named m (facts_of c).indices) refl (found_passes (λ k. with_found (facts_named k (facts_of c).indices) false (λ f. has_time f time)) members m there) is
+-- ---- the member of a time
 
-  member_open : (m : List ℕ) (o : Option HeldIndex) → facts_named m (facts_of c).indices ≡ o → picked_from o ≡ Ok n → i.facts.blocked ≡ false
-  member_open m None found is = absurd (err_not_ok is)
-  member_open m (Some f) found is = held_open m f found f.blocked refl is
+-- an index is found by its own name
+abbrev IsFound : PlainCatalog → PlainIndex → Type 0
+IsFound c i = index_named i.facts.name c.indices ≡ Some i
 
-  picked_from_open : (o : Option (List ℕ)) → with_found o (Err NoWindow) (λ m. picked_from (facts_named m (facts_of c).indices)) ≡ Ok n → i.facts.blocked ≡ false
-  picked_from_open None is = absurd (err_not_ok is)
-  picked_from_open (Some m) is = member_open m (facts_named m (facts_of c).indices) refl is
+members_found : (c : PlainCatalog) (ns : List (List ℕ)) → Each (IsFound c) (filter_map (λ n. index_named n c.indices) ns)
+members_found c [] = tt
+members_found c (n ∷ ns) = by_found (index_named n c.indices) refl (members_found c ns)
+  where
+    by_found : (o : Option PlainIndex) → index_named n c.indices ≡ o → Each (IsFound c) (filter_map (λ k. index_named k c.indices) ns) → Each (IsFound c) (cons_option o (filter_map (λ k. index_named k c.indices) ns))
+    by_found None there later = later
+    by_found (Some i) there later = (ap (λ m. index_named m c.indices) (named_as n c.indices i there) ∙ there, later)
 
-pub picked_open : (c : PlainCatalog) (s : PlainStream) (time : ℤ) (n : List ℕ) (i : PlainIndex) → picked_by (facts_of c) s time ≡ Ok n → index_named n c.indices ≡ Some i → i.facts.blocked ≡ false
-picked_open c s time n i picked there = picked_from_open c n i there (member_at (facts_of c) time s) picked
+pub record IsMemberAt (c : PlainCatalog) (time : ℤ) (i : PlainIndex) : Type 0 where
+  pub there : index_named i.facts.name c.indices ≡ Some i
+  pub within : has_time i.facts time ≡ true
 
-pub picked_within : (c : PlainCatalog) (s : PlainStream) (time : ℤ) (n : List ℕ) (i : PlainIndex) → picked_by (facts_of c) s time ≡ Ok n → index_named n c.indices ≡ Some i → has_time i.facts time ≡ true
-picked_within c s time n i picked there = picked_from_within c n i there time s.facts.members (member_at (facts_of c) time s) refl picked
+found_at : (c : PlainCatalog) (time : ℤ) (is : List PlainIndex) (i : PlainIndex) → Each (IsFound c) is → at time is ≡ Some i → IsMemberAt c time i
+found_at c time [] i each found = absurd (none_not_some found)
+found_at c time (j ∷ js) i each found = by_test (has_time j.facts time) refl found (found_at c time js i each.1)
+  where
+    by_test : (b : Bool) → has_time j.facts time ≡ b → cond b (Some j) (at time js) ≡ Some i → (at time js ≡ Some i → IsMemberAt c time i) → IsMemberAt c time i
+    by_test true within found later = subst (IsMemberAt c time) (some_is found) (record { there = each.0; within = within })
+    by_test false within found later = later found
+
+pub member_found : (c : PlainCatalog) (s : PlainStream) (time : ℤ) (i : PlainIndex) → member_at c time s ≡ Some i → IsMemberAt c time i
+member_found c s time i found = found_at c time (members_of c s) i (members_found c s.facts.members) found

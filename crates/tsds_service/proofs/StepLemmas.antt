@@ -1,6 +1,5 @@
 -- Each step of what is seen is what is seen of the step.
 use Rattle.std.specs.Prelude.{◌≡◌, ℕ, Bool, true, false, List, [], ◌∷◌, map, length, Option, Some, None, Result, Ok, Err, if◌then◌else◌}
-use Rattle.std.specs.List.{cons_option, filter_map}
 use Rattle.std.specs.Option.{option_map}
 use Rattle.std.proofs.Common.{refl, ap, ◌∙◌, sym}
 use Rattle.bulk_json.specs.declared.items.Item.{Item}
@@ -32,13 +31,14 @@ use Rattle.tsds_service.specs.Causes as cause
 use Rattle.tsds_service.specs.Causes.{Cause, refused}
 use Rattle.tsds_service.specs.Laws.{StepsRefine, StepsStand, UnitsRefine, UnitsStand}
 use Rattle.tsds_service.specs.Machine.{Machine, see, unit}
-use Rattle.tsds_service.specs.Questions.{Searching, facts_in, samples_of, members_of, target_of, get_reply}
+use Rattle.tsds_service.specs.Questions.{Searching, facts_in, samples_of, target_of, get_reply}
 use Rattle.tsds_service.specs.Replies.{ack, stream_reply, rolled_reply, blocked_reply, ran_reply, series_count, task_tree, tasks_listed}
 use Rattle.tsds_service.specs.Requests as spec
 use Rattle.tsds_service.specs.Requests.{Stepped, see_stepped, About, unchanged, changed, unless, caused, about_name, about_index, about_fold, fold_names_refusal, write_index, step_of, step}
 use Rattle.tsds_service.specs.declared.reply.Reply.{Reply}
 use Rattle.tsds_service.proofs.CatalogLaws.{CatalogLaws}
 use Rattle.tsds_service.proofs.ItemLemmas.{outcomes-see, after_items-see}
+use Rattle.tsds_service.proofs.OrderLemmas.{targets_stay}
 use Rattle.tsds_service.proofs.SampleLemmas.{facts_in-see, samples_stay}
 
 -- ---- answers
@@ -134,33 +134,9 @@ module _ (laws : CatalogLaws) (m : Machine) where
 
   -- ---- questions
 
-  members-see : (ns : List (List ℕ)) → filter_map (λ n. index_named n (see_catalog m.catalog).indices) ns ≡ map see_index (filter_map (λ n. index_named n m.catalog.indices) ns)
-  members-see [] = refl
-  members-see (n ∷ ns) = ap (λ o. cons_option o (filter_map (λ k. index_named k (see_catalog m.catalog).indices) ns)) (laws.lookups m.catalog n) ∙ by_found (index_named n m.catalog.indices) (members-see ns)
-    where
-      by_found : (o : Option PlainIndex) → filter_map (λ k. index_named k (see_catalog m.catalog).indices) ns ≡ map see_index (filter_map (λ k. index_named k m.catalog.indices) ns) →
-          cons_option (option_map see_index o) (filter_map (λ k. index_named k (see_catalog m.catalog).indices) ns) ≡ map see_index (cons_option o (filter_map (λ k. index_named k m.catalog.indices) ns))
-      by_found None later = later
-      by_found (Some i) later = ap (λ is. see_index i ∷ is) later
-
-  target-see : (name : List ℕ) → target_of (see_catalog m.catalog) name ≡ option_map (map see_index) (target_of m.catalog name)
-  target-see name = by_stream (stream_named name m.catalog.streams)
-    where
-      one : Option PlainIndex → Option (List PlainIndex)
-      one o = with_found o None (λ i. Some (i ∷ []))
-
-      by_index : (o : Option PlainIndex) → one (option_map see_index o) ≡ option_map (map see_index) (one o)
-      by_index None = refl
-      by_index (Some i) = refl
-
-      by_stream : (o : Option PlainStream) → with_found o (one (index_named name (see_catalog m.catalog).indices)) (λ s. Some (members_of (see_catalog m.catalog) s))
-          ≡ option_map (map see_index) (with_found o (one (index_named name m.catalog.indices)) (λ s. Some (members_of m.catalog s)))
-      by_stream None = ap one (laws.lookups m.catalog name) ∙ by_index (index_named name m.catalog.indices)
-      by_stream (Some s) = ap (λ is. Some is) (members-see s.facts.members)
-
   asked-see : (name : List ℕ) (answer : Way → List PlainIndex → Reply) → ((is : List PlainIndex) → answer seen_way (map see_index is) ≡ answer plain_way is) →
       with_found (target_of (see_catalog m.catalog) name) (refused (cause.no_such_name name)) (answer seen_way) ≡ with_found (target_of m.catalog name) (refused (cause.no_such_name name)) (answer plain_way)
-  asked-see name answer same = ap (λ o. with_found o (refused (cause.no_such_name name)) (answer seen_way)) (target-see name) ∙ by_found (target_of m.catalog name)
+  asked-see name answer same = ap (λ o. with_found o (refused (cause.no_such_name name)) (answer seen_way)) (targets_stay laws.lookups m.catalog name) ∙ by_found (target_of m.catalog name)
     where
       by_found : (o : Option (List PlainIndex)) → with_found (option_map (map see_index) o) (refused (cause.no_such_name name)) (answer seen_way) ≡ with_found o (refused (cause.no_such_name name)) (answer plain_way)
       by_found None = refl

@@ -26,13 +26,11 @@ use Rattle.series_id.specs.KeyFaultLaws.{keyed_told}
 use Rattle.series_id.specs.Keys.{keyed}
 use Rattle.stream_catalog.specs.Laws.{FoundIsHeld, NamesKeep, TakesRow, PutsKeepSound}
 use Rattle.stream_catalog.specs.Lists.{with_found, stream_named, index_named}
-use Rattle.stream_catalog.specs.Plain.{PlainIndex, PlainStream, PlainCatalog, facts_of}
-use Rattle.stream_catalog.specs.Puts.{has_time, MayPut, is_full, picked_by}
+use Rattle.stream_catalog.specs.Plain.{PlainIndex, PlainStream, PlainCatalog}
+use Rattle.stream_catalog.specs.Puts.{has_time, MayPut, is_full, member_at}
 use Rattle.stream_catalog.specs.Sound.{IsKind, IsSoundCatalog}
 use Rattle.stream_catalog.specs.Ways.{plain_way}
 use Rattle.stream_catalog.specs.WellNamed.{IsWellNamed}
-use Rattle.stream_catalog.specs.declared.answers.PickError.{PickError}
-use Rattle.stream_catalog.specs.declared.answers.PickError.TheVariants.{NoWindow, Blocked}
 use Rattle.synthetic_source.specs.Document.{document_cells}
 use Rattle.synthetic_source.specs.Faults.{time_of}
 use Rattle.synthetic_source.specs.Laws.{CellsOfDocumentsFit}
@@ -41,9 +39,9 @@ use Rattle.time_text.specs.Instant.{IsInstant}
 use Rattle.time_text.specs.declared.intervals.Interval.{Interval}
 use Rattle.tsds_service.specs.Bulk.{Outcome, taken, barred, key_of, by_place, by_key, by_cells, by_index, by_pick, by_time, by_document, by_stream, by_action, item_outcome, after_outcome, after_item, after_items}
 use Rattle.tsds_service.specs.CausedLaws.{keys_caused, same_with_causes}
-use Rattle.tsds_service.specs.Causes.{ItemCause, conflict, full, outside, no_stream, no_object, key_cause}
+use Rattle.tsds_service.specs.Causes.{ItemCause, conflict, full, blocked, no_stream, no_object, key_cause}
 use Rattle.tsds_service.proofs.ItemLemmas.{barred_not, taken_name, taken_row, some_is, none_not_some}
-use Rattle.tsds_service.proofs.PickLemmas.{picked_open, picked_within}
+use Rattle.tsds_service.proofs.PickLemmas.{member_found}
 use Rattle.tsds_service.proofs.SourceLemmas.{IsSourceWithin, AreSourcesWithin}
 
 -- ---- numbers
@@ -59,9 +57,9 @@ instant_between start end t begins ends above below = (omega (arith, ints, begin
 
 -- ---- what is held of an index that is there
 
-raw_schema : (interval : Option Interval) (blocked : Bool) (schema : Schema) → IsKind interval blocked schema → blocked ≡ false → schema.folded ≡ false
-raw_schema None blocked schema kind takes = kind.0
-raw_schema (Some by) blocked schema kind takes = absurd (both_ways blocked takes kind.1)
+raw_schema : (interval : Option Interval) (shut : Bool) (schema : Schema) → IsKind interval shut schema → shut ≡ false → schema.folded ≡ false
+raw_schema None shut schema kind takes = kind.0
+raw_schema (Some by) shut schema kind takes = absurd (both_ways shut takes kind.1)
 
 -- ---- the row of an item
 
@@ -111,20 +109,19 @@ module _ (held_there : FoundIsHeld) (fit : CellsOfDocumentsFit) (c : PlainCatalo
       key_takes m i time cells (key_of i.facts.mapping.schema cells) found takes within (fit i.facts.mapping.schema i.facts.mapping.strict d cells held.mapping.schema few made) refl is
   cells_take m i time d (Err fault) few found takes within made is = absurd (barred_not is)
 
-  pick_takes : (s : PlainStream) (time : ℤ) (d : Data) (pick : Result (List ℕ) PickError) → leaf_count d ≤ longest_list → picked_by (facts_of c) s time ≡ pick →
-      by_pick c s time d pick ≡ taken n row → TakesRow c n row
-  pick_takes s time d (Err NoWindow) few picked is = absurd (barred_not is)
-  pick_takes s time d (Err Blocked) few picked is = absurd (barred_not is)
-  pick_takes s time d (Ok m) few picked is = by_found (index_named m c.indices) refl is
+  pick_takes : (s : PlainStream) (time : ℤ) (d : Data) (pick : Option PlainIndex) → leaf_count d ≤ longest_list → member_at c time s ≡ pick → by_pick time d pick ≡ taken n row → TakesRow c n row
+  pick_takes s time d None few picked is = absurd (barred_not is)
+  pick_takes s time d (Some i) few picked is = by_test i.facts.blocked refl is
     where
-      by_found : (o : Option PlainIndex) → index_named m c.indices ≡ o → with_found o (barred (outside time)) (λ i. by_index m i time d) ≡ taken n row → TakesRow c n row
-      by_found None found is = absurd (barred_not is)
-      by_found (Some i) found is =
-          cells_take m i time d (document_cells i.facts.mapping.schema i.facts.mapping.strict d) few found (picked_open c s time m i picked found) (picked_within c s time m i picked found) refl is
+      by_test : (b : Bool) → i.facts.blocked ≡ b → (if b then barred (blocked i.facts.name) else by_index i.facts.name i time d) ≡ taken n row → TakesRow c n row
+      by_test true shut is = absurd (barred_not is)
+      by_test false takes is =
+          let member = member_found c s time i picked in
+          cells_take i.facts.name i time d (document_cells i.facts.mapping.schema i.facts.mapping.strict d) few member.there takes member.within refl is
 
   time_takes : (s : PlainStream) (d : Data) (time : Option ℤ) → leaf_count d ≤ longest_list → by_time c s d time ≡ taken n row → TakesRow c n row
   time_takes s d None few is = absurd (barred_not is)
-  time_takes s d (Some time) few is = pick_takes s time d (picked_by (facts_of c) s time) few refl is
+  time_takes s d (Some time) few is = pick_takes s time d (member_at c time s) few refl is
 
   -- the tree of a source has few enough leaves
   few_in : (source : List ℕ) (d : Data) → length source ≤ longest_list → object_of source ≡ Some d → leaf_count d ≤ longest_list

@@ -7,11 +7,11 @@ use Rattle.row_cells.specs.Each.{Each}
 use Rattle.row_cells.specs.EachLaws.{Each-weaker}
 use Rattle.row_cells.specs.Joining.{FieldsAgree}
 use Rattle.stream_catalog.specs.Laws.{FoundAgree}
-use Rattle.stream_catalog.specs.Lists.{with_found, stream_named, facts_named, index_named}
+use Rattle.stream_catalog.specs.Lists.{with_found, stream_named, facts_named, index_named, members_of}
 use Rattle.stream_catalog.specs.Plain.{PlainIndex, PlainStream, PlainCatalog, facts_of}
 use Rattle.stream_catalog.specs.Sound.{IsMemberOf, IsStreamSound, IsSoundCatalog}
 use Rattle.tsds_service.specs.Laws.{TargetsAgree}
-use Rattle.tsds_service.specs.Questions.{members_of, target_of}
+use Rattle.tsds_service.specs.Questions.{target_of}
 use Rattle.tsds_service.proofs.ItemLemmas.{none_not_some, some_is}
 use Rattle.tsds_service.proofs.PickLemmas.{facts-index}
 

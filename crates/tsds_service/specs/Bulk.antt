@@ -16,12 +16,10 @@ use Rattle.row_cells.specs.declared.schemas.Schema.{Schema}
 use Rattle.serde_json.specs.Data.{Data}
 use Rattle.series_id.specs.Ids.{id_of}
 use Rattle.series_id.specs.Keys.{keyed}
-use Rattle.stream_catalog.specs.Lists.{with_found, stream_named, index_named}
-use Rattle.stream_catalog.specs.Plain.{PlainIndex, PlainStream, PlainCatalog, facts_of}
-use Rattle.stream_catalog.specs.Puts.{is_full, member_at, picked_by, put_into}
+use Rattle.stream_catalog.specs.Lists.{with_found, stream_named}
+use Rattle.stream_catalog.specs.Plain.{PlainIndex, PlainStream, PlainCatalog}
+use Rattle.stream_catalog.specs.Puts.{is_full, member_at, put_into}
 use Rattle.stream_catalog.specs.Ways.{Way}
-use Rattle.stream_catalog.specs.declared.answers.PickError.{PickError}
-use Rattle.stream_catalog.specs.declared.answers.PickError.TheVariants.{NoWindow, Blocked}
 use Rattle.synthetic_source.specs.Document.{document_cells}
 use Rattle.synthetic_source.specs.Faults.{time_fault, time_of}
 use Rattle.synthetic_source.specs.declared.errors.DocKind.{DocKind}
@@ -67,14 +65,13 @@ abbrev pub by_index : List ℕ → PlainIndex → ℤ → Data → Outcome
 by_index n i time d = by_cells n i time (document_cells i.facts.mapping.schema i.facts.mapping.strict d)
 
 -- a member of the stream has the time in its window, and takes documents; a blocked one is told by its name
-abbrev pub by_pick : PlainCatalog → PlainStream → ℤ → Data → Result (List ℕ) PickError → Outcome
-by_pick c s time d (Ok n) = with_found (index_named n c.indices) (barred (outside time)) (λ i. by_index n i time d)
-by_pick c s time d (Err NoWindow) = barred (outside time)
-by_pick c s time d (Err Blocked) = barred (blocked (unwrap_or (member_at (facts_of c) time s) []))
+abbrev pub by_pick : ℤ → Data → Option PlainIndex → Outcome
+by_pick time d None = barred (outside time)
+by_pick time d (Some i) = if i.facts.blocked then barred (blocked i.facts.name) else by_index i.facts.name i time d
 
 -- the document has a time; where it has none, that is at fault
 abbrev pub by_time : PlainCatalog → PlainStream → Data → Option ℤ → Outcome
-by_time c s d (Some time) = by_pick c s time d (picked_by (facts_of c) s time)
+by_time c s d (Some time) = by_pick time d (member_at c time s)
 by_time c s d None = barred (bad_time (unwrap_or (time_fault d) NoTime))
 
 -- what comes of a document of a stream

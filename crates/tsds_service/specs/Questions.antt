@@ -1,6 +1,6 @@
 -- What is asked of rows that answer.
 use Rattle.std.specs.Prelude.{ℕ, ℤ, true, false, List, [], ◌∷◌, map, codes, bytes_eq, Option, Some, None}
-use Rattle.std.specs.List.{filter_map, find, flat_map}
+use Rattle.std.specs.List.{find, flat_map}
 use Rattle.reply_json.specs.Trees.{member}
 use Rattle.reply_json.specs.declared.out.Out.{Flag, Word, Object}
 use Rattle.row_cells.specs.Joining.{join_fields}
@@ -10,8 +10,8 @@ use Rattle.row_cells.specs.declared.schemas.Field.{Field}
 use Rattle.row_cells.specs.declared.schemas.Schema.{Schema}
 use Rattle.serde_json.specs.Data.{Data}
 use Rattle.series_id.specs.Ids.{id_of}
-use Rattle.stream_catalog.specs.Lists.{with_found, stream_named, index_named}
-use Rattle.stream_catalog.specs.Plain.{PlainIndex, PlainStream, PlainCatalog}
+use Rattle.stream_catalog.specs.Lists.{with_found, stream_named, index_named, members_of}
+use Rattle.stream_catalog.specs.Plain.{PlainIndex, PlainCatalog}
 use Rattle.stream_catalog.specs.Ways.{Way}
 use Rattle.stream_catalog.specs.declared.facts.HeldIndex.{HeldIndex}
 use Rattle.synthetic_source.specs.Normal.{norm}
@@ -56,10 +56,6 @@ abbrev pub samples_of : Way → List PlainIndex → List Offered
 samples_of way is = flat_map (offered_of way (joined_fields (facts_in is))) is
 
 -- ---- targets
-
--- the members of a stream
-abbrev pub members_of : PlainCatalog → PlainStream → List PlainIndex
-members_of c s = filter_map (λ n. index_named n c.indices) s.facts.members
 
 -- what a name stands for: all members of a stream, or one index
 abbrev pub target_of : PlainCatalog → List ℕ → Option (List PlainIndex)
