@@ -8,7 +8,7 @@ use Rattle.tsds_service.specs.Bulk.{items_of, after_item, after_items}
 use Rattle.tsds_service.specs.Causes.{Cause}
 use Rattle.tsds_service.specs.GivenUp.{given_up}
 use Rattle.tsds_service.specs.Machine.{Machine}
-use Rattle.tsds_service.specs.Questions.{Asking}
+use Rattle.tsds_service.specs.Questions.{Searching}
 use Rattle.tsds_service.specs.Requests.{step}
 
 module _ (way : Way) (m : Machine) (now : ℤ) (path : Option (List ℕ)) (body : List ℕ) where
@@ -23,9 +23,9 @@ module _ (way : Way) (m : Machine) (now : ℤ) (path : Option (List ℕ)) (body 
     both_done = rw read refl
 
     -- there are no more: it is left as by its step
-    pub all_done : (asking : Asking) → given_up way m (bulk path body) now 7 ≡ (step asking way m (bulk path body) now).machine
+    pub all_done : (searching : Searching) → given_up way m (bulk path body) now 7 ≡ (step searching way m (bulk path body) now).machine
     unfolding step
-    all_done asking = rw read refl
+    all_done searching = rw read refl
 
   pub unread : (cause : Cause) (k : ℕ) → items_of path body ≡ Err cause → given_up way m (bulk path body) now k ≡ record m { now = now }
   unread cause k read = rw read refl
