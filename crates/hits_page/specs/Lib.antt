@@ -1,4 +1,5 @@
 pub mod Hits
+pub mod Limits
 pub mod OrderOfOffers
 pub mod PageLaws
 pub mod Pages

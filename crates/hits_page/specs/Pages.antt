@@ -3,6 +3,7 @@ use Rattle.std.specs.Prelude.{◌≡◌, ℕ, ◌+◌, ◌<◌, nat_le, List, le
 use Rattle.std.specs.List.{insert}
 use Rattle.row_cells.specs.declared.scalars.Scalar.{Scalar}
 use Rattle.hits_page.specs.Hits.{hit_cmp}
+use Rattle.hits_page.specs.Limits.{deepest}
 use Rattle.row_cells.specs.Sorted.{sorted}
 use Rattle.hits_page.specs.declared.hits.Hit.{Hit}
 use Rattle.hits_page.specs.declared.hits.Page.{Page}
@@ -25,7 +26,7 @@ pub record Stands (p : Pager) (offered : List Hit) : Type 0 where
 
 -- why a pager isn't made: a page that ends too deep, or want of memory, which is free
 abbrev pub IsPageCause : ℕ → PageError → Type 0
-IsPageCause asked (WindowTooLarge n) = (n ≡ asked) × (10000 < asked)
+IsPageCause asked (WindowTooLarge n) = (n ≡ asked) × (deepest < asked)
 IsPageCause asked (BadSort path) = ⊥
 IsPageCause asked Shape = ⊥
 IsPageCause asked NoMemory = Unit {0}

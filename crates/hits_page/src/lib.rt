@@ -5,6 +5,7 @@ mod counting;
 mod entries;
 mod hits;
 mod laws;
+mod limits;
 mod order;
 mod pager;
 mod sort_keys;
@@ -12,6 +13,7 @@ mod sorts;
 
 pub use hits::{Hit, Page, Picked};
 pub use laws::pages_in_any_order;
+pub use limits::DEEPEST;
 pub use pager::{PageError, Pager};
 pub use sort_keys::SortKey;
 pub use sorts::read_sort;

@@ -2,11 +2,13 @@
 ghost use Rattle.std.specs.Prelude.{◌≡◌, ◌+◌, ◌<◌, ◌≤◌, ◌^◌, [], ◌∷◌, List, map, drop, take, length, IfOk, IfErr, OnOk, OnErr};
 ghost use Rattle.std.specs.List.{insert};
 ghost use Rattle.hits_page.specs.Hits as spec;
+ghost use Rattle.hits_page.specs.Limits.{deepest};
 ghost use Rattle.hits_page.specs.Pages.{IsPageCause, Stands, best_with, offered_hit, page_of};
 ghost use Rattle.hits_page.specs.declared.hits.Hit.{Hit};
 
 use crate::counting::one_more;
 use crate::hits::{Hit, Page, Picked, sort_values};
+use crate::limits::DEEPEST;
 use crate::order::{PlaceAt, find_place};
 use crate::sort_keys::SortKey;
 use edge_face::{NoMemory, Text};
@@ -18,7 +20,7 @@ use thiserror::Error;
 /// Why there is no page, or no order of one.
 #[derive(Debug, Drop, Error)]
 pub enum PageError {
-    #[error("the page ends at hit {asked}, which is over 10,000")]
+    #[error("the page ends at hit {asked}, which is over {}", DEEPEST)]
     WindowTooLarge { asked: u64 },
     #[error("no sort by the field {}", path.as_str())]
     BadSort { path: Text },
@@ -27,9 +29,6 @@ pub enum PageError {
     #[error("out of memory")]
     NoMemory,
 }
-
-/// The last hit that a page may have.
-const DEEPEST: u64 = 10_000;
 
 /// The rows of a page among those offered so far, and how many were offered.
 #[derive(Drop)]
@@ -124,7 +123,7 @@ impl Pager {
         requires { from + size < 2 ^ 64 }
         ensures stands { IfOk result (λ pager. Stands pager []) }
         ensures asked { IfOk result (λ pager. (pager.keys ≡ sort) × (pager.from ≡ from) × (pager.size ≡ size)) }
-        ensures few { IfOk result (λ pager. from + size ≤ 10000) }
+        ensures few { IfOk result (λ pager. from + size ≤ deepest) }
         ensures err { IfErr result (IsPageCause (from + size)) }
     {
         let asked = from + size;

@@ -1,5 +1,6 @@
 pub mod FaultLaws
 pub mod Faults
+pub mod Limits
 pub mod Matching
 pub mod Reading
 pub mod Seen

@@ -14,6 +14,7 @@ use Rattle.row_cells.specs.declared.schemas.Field.{Field}
 use Rattle.row_cells.specs.declared.schemas.Schema.{Schema}
 use Rattle.ts_mapping.specs.Readings.{reading_of}
 use Rattle.search_filter.specs.Faults.{worst_with}
+use Rattle.search_filter.specs.Limits.{most_terms}
 use Rattle.search_filter.specs.declared.faults.Fault.{Fault}
 use Rattle.search_filter.specs.declared.faults.Fault.TheVariants.{Shape, WrongValue}
 use Rattle.search_filter.specs.declared.places.Placed.{Placed}
@@ -112,7 +113,7 @@ abbrev pub term_of : List Field → Option (List ℕ × Data) → Read Query
 term_of fields None = misshapen Nothing
 term_of fields (Some m) = term_at m.0 (field_named m.0 fields) (term_value m.1)
 
--- ---- terms: at most 65,536 values
+-- ---- terms: at most so many values
 
 abbrev pub count_items : Items → ℕ
 count_items no_items = 0
@@ -127,7 +128,7 @@ terms_in fields path null = misshapen Nothing
 terms_in fields path (boolean b) = misshapen Nothing
 terms_in fields path (number n) = misshapen Nothing
 terms_in fields path (string s) = misshapen Nothing
-terms_in fields path (array ds) = if nat_le (count_items ds) 65536 then terms_at path (field_named path fields) ds else misshapen Nothing
+terms_in fields path (array ds) = if nat_le (count_items ds) most_terms then terms_at path (field_named path fields) ds else misshapen Nothing
 terms_in fields path (object ms) = misshapen Nothing
 
 abbrev pub terms_of : List Field → Option (List ℕ × Data) → Read Query

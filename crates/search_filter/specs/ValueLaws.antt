@@ -16,10 +16,10 @@ use Rattle.search_filter.specs.Values.{number_of, word_of, rank_of, value_cmp}
 pub value_cmp_total : IsTotalOrder value_cmp
 value_cmp_total = then_total (on_total rank_of nat_cmp_total) (then_total (on_total number_of int_cmp_total) (on_total word_of nat_list_cmp_total))
 
-whole_tied : (x y : ℤ) → int_cmp x y ≡ Equal → x ≡ y
+pub whole_tied : (x y : ℤ) → int_cmp x y ≡ Equal → x ≡ y
 whole_tied x y is = int_ranked x y Equal (sym is)
 
-word_tied : (x y : List ℕ) → slice_cmp nat_cmp x y ≡ Equal → x ≡ y
+pub word_tied : (x y : List ℕ) → slice_cmp nat_cmp x y ≡ Equal → x ≡ y
 word_tied x y is = (bytes_eq-Decides x y).0 (sym (is_eq-slice_cmp x y) ∙ ap is_eq is)
 
 first_tied : (a b : Ordering) → ordering_then a b ≡ Equal → a ≡ Equal

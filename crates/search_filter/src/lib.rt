@@ -4,6 +4,7 @@
 mod clauses;
 mod faults;
 mod leaves;
+mod limits;
 mod matching;
 mod places;
 mod query;
@@ -12,6 +13,7 @@ mod reading;
 mod terms;
 mod values;
 
+pub use limits::MOST_TERMS;
 pub use matching::matches;
 pub use query::{Bound, Query};
 pub use reading::{QueryError, read_query};

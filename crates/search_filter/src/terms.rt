@@ -3,10 +3,12 @@ ghost use Rattle.std.specs.Prelude.{◌≡◌, ◌≢◌, ◌++◌, IfOk, OnOk, 
 ghost use Rattle.serde_json.specs.View.{items_view, view};
 ghost use Rattle.json_walk.specs.Shapes.{only_member as only_member_of};
 ghost use Rattle.search_filter.specs.Faults.{worst_with};
+ghost use Rattle.search_filter.specs.Limits.{most_terms};
 ghost use Rattle.search_filter.specs.Reading as spec;
 ghost use Rattle.search_filter.specs.Seen.{data_seen};
 
 use crate::faults::Faults;
+use crate::limits::MOST_TERMS;
 use crate::places::{Placed, Reader, find};
 use crate::query::Query;
 use edge_face::NoMemory;
@@ -15,9 +17,6 @@ use row_cells::{FieldType, Scalar};
 use serde_json::Value;
 use sqlite_items::Items;
 use ts_mapping::read_scalar;
-
-/// The most values that `terms` takes.
-const MOST_TERMS: usize = 65_536;
 
 /// As which type the values of a field are read.
 pub fn kind_asked(kind: FieldType) -> FieldType
@@ -149,7 +148,7 @@ fn terms_at(
 
 #[tactic(auto, using(crate::proofs::Grouped::items_counted))]
 fn are_few(items: &[Value]) -> bool
-    ensures { result ≡ nat_le (spec.count_items (items_view items.now)) 65536 }
+    ensures { result ≡ nat_le (spec.count_items (items_view items.now)) most_terms }
 {
     items.len() <= MOST_TERMS
 }
