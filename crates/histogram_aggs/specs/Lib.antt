@@ -8,6 +8,7 @@ pub mod Examples
 pub mod JoinLaws
 pub mod Kinds
 pub mod Laws
+pub mod Limits
 pub mod MetricLaws
 pub mod Metrics
 pub mod PickLaws

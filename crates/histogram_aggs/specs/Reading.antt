@@ -18,14 +18,15 @@ use Rattle.histogram_aggs.specs.declared.errors.AggError.{AggError}
 use Rattle.histogram_aggs.specs.declared.errors.AggError.TheVariants.{Shape, WrongField}
 use Rattle.histogram_aggs.specs.declared.saying.Said.{Said}
 use Rattle.histogram_aggs.specs.Asks.{Asks, no_asks, ask}
+use Rattle.histogram_aggs.specs.Limits.{most_buckets}
 use Rattle.histogram_aggs.specs.Kinds.{kind_name, metric_named, has_buckets, supports}
 
 -- ---- what an aggregation says of itself
 
--- how many buckets of values are shown: 10, or a number from 1 to 65,536
+-- how many buckets of values are shown: 10, or a number from 1 to the most buckets of an answer
 abbrev pub size_in : Option Data → Option ℕ
 size_in None = Some 10
-size_in (Some d) = option_map unsigned_abs (whole_between (pos 1) (pos 65536) d)
+size_in (Some d) = option_map unsigned_abs (whole_between (pos 1) (pos most_buckets) d)
 
 -- by falling documents, or by rising or falling keys
 abbrev pub order_named : List ℕ → List ℕ → Option (Option Bool)

@@ -2,6 +2,7 @@
 ghost use Rattle.std.specs.Prelude.{◌≡◌};
 ghost use Rattle.histogram_aggs.specs.declared.errors.AggError.TheVariants.{NoMemory as OutOfMemory};
 
+use crate::limits::MOST_BUCKETS;
 use edge_face::{NoMemory, Text};
 use thiserror::Error;
 
@@ -15,7 +16,7 @@ pub enum AggError {
     #[error("field [{}] is not supported for aggregation [{}]", path.as_str(), kind.as_str())]
     WrongField { path: Text, kind: Text },
     /// The answer would have more buckets than that, at all levels together.
-    #[error("more than [65536] buckets")]
+    #[error("more than [{}] buckets", MOST_BUCKETS)]
     TooManyBuckets,
     #[error("out of memory")]
     NoMemory,

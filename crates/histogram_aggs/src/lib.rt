@@ -4,6 +4,7 @@
 mod aggs;
 mod errors;
 mod laws;
+mod limits;
 mod metrics;
 mod reading;
 mod saying;
@@ -14,6 +15,7 @@ mod wrongs;
 pub use aggs::{Agg, AggKind};
 pub use errors::AggError;
 pub use laws::{aggs_alike, alike_lists, indices_agree};
+pub use limits::MOST_BUCKETS;
 pub use metrics::{metric_out, told};
 pub use reading::read_aggs;
 pub use tallies::{Tally, tally_of};

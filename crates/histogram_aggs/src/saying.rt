@@ -6,6 +6,7 @@ ghost use Rattle.histogram_aggs.specs.Reading as spec;
 ghost use Rattle.histogram_aggs.specs.SeenParts.{seen_value};
 
 use crate::aggs::AggKind;
+use crate::limits::MOST_BUCKETS;
 use json_walk::{has_no_other, only_member, whole_between};
 use row_cells::Field;
 use serde_json::Value;
@@ -27,7 +28,7 @@ fn size_in(value: Option<&Value>) -> Option<u64>
     match value {
         None => Some(USUAL_SIZE),
         Some(value) => {
-            let size = whole_between(value, 1, 65_536)?;
+            let size = whole_between(value, 1, MOST_BUCKETS as i64)?;
             Some(size.unsigned_abs())
         }
     }
