@@ -20,17 +20,18 @@ use Rattle.row_cells.specs.Each.{Each}
 use Rattle.row_cells.specs.EachLaws.{Each-weaker, Each-all}
 use Rattle.downsample_fold.specs.Columns.{total_of}
 use Rattle.row_cells.specs.Mapped.{IsRoleAt}
+use Rattle.search_filter.specs.Values.{values_of, number_of, value_cmp}
+use Rattle.search_filter.specs.ValueLaws.{value_cmp_total, whole_tied, word_tied, value_tied}
 use Rattle.histogram_aggs.specs.declared.aggs.AggKind.{AggKind}
 use Rattle.histogram_aggs.specs.declared.aggs.AggKind.TheVariants.{Min, Max, Sum, ValueCount, Increase, Terms, DateHistogram}
 use Rattle.histogram_aggs.specs.Asks.{Asks, no_asks, ask}
 use Rattle.histogram_aggs.specs.Sets.{ascending}
-use Rattle.histogram_aggs.specs.Samples.{Sample, values_of, values_at, number_of, value_cmp}
+use Rattle.histogram_aggs.specs.Samples.{Sample, values_at}
 use Rattle.histogram_aggs.specs.Metrics.{gauge_all, gauge_metric, numbers_at, of_window, rise_in_order, windows_of, series_in, increase_of, increase_in, metric_by, first_of, last_of}
 use Rattle.histogram_aggs.specs.Buckets.{keys_at, with_value, in_bucket, starts_at}
 use Rattle.histogram_aggs.specs.Answers.{Answer, Results, Bucket, bucket_of, Placed, placed_of, field_of, metric_tree, type_shown, terms_over, terms_answer, histogram_over, histogram_answer, answer_of, with_answer, results_of, within_limit}
 use Rattle.histogram_aggs.specs.Alike.{Choice, Head, Keeps, IsOfHead, pick, Alike, IsSeriesWise, AreSeriesWise}
 use Rattle.histogram_aggs.specs.Laws.{AggsAlike}
-use Rattle.histogram_aggs.specs.ValueLaws.{value_cmp_total, int_tied, key_tied, value_tied}
 use Rattle.histogram_aggs.specs.PickLaws.{filter-same, alike-pick, alike-documents, alike-gauge, alike-rise, same-marks}
 
 -- ---- the field at a place
@@ -68,13 +69,13 @@ module _ (n : ℕ) (some : 0 < n) (fields : List Field) (head : Head) (keeps : K
   same-starts : (xs ys : List Sample) → Alike n fields head keeps xs ys → windows_of xs ≡ windows_of ys
   same-starts xs ys alike =
       ap (ascending int_cmp) (map-flat (λ s. s.start) xs)
-      ∙ (same-marks int_cmp int_cmp_total int_tied n fields head keeps (λ key start bucket. start ∷ []) xs ys alike
+      ∙ (same-marks int_cmp int_cmp_total whole_tied n fields head keeps (λ key start bucket. start ∷ []) xs ys alike
       ∙ sym (ap (ascending int_cmp) (map-flat (λ s. s.start) ys)))
 
   same-series : (xs ys : List Sample) → Alike n fields head keeps xs ys → series_in xs ≡ series_in ys
   same-series xs ys alike =
       ap (ascending (slice_cmp nat_cmp)) (map-flat (λ s. s.row.key) xs)
-      ∙ (same-marks (slice_cmp nat_cmp) nat_list_cmp_total key_tied n fields head keeps (λ key start bucket. key ∷ []) xs ys alike
+      ∙ (same-marks (slice_cmp nat_cmp) nat_list_cmp_total word_tied n fields head keeps (λ key start bucket. key ∷ []) xs ys alike
       ∙ sym (ap (ascending (slice_cmp nat_cmp)) (map-flat (λ s. s.row.key) ys)))
 
   abbrev increase_by : (List ℕ → ℤ → Rising) → List ℤ → List (List ℕ) → ℤ
@@ -93,7 +94,7 @@ module _ (n : ℕ) (some : 0 < n) (fields : List Field) (head : Head) (keeps : K
   same-numbers : (role : Role) (place : ℕ) (xs ys : List Sample) → role ≡ Dimension → IsRoleAt role fields place → Alike n fields head keeps xs ys → ascending int_cmp (numbers_at role place xs) ≡ ascending int_cmp (numbers_at role place ys)
   same-numbers role place xs ys is at alike =
       ap (ascending int_cmp) (flat-same (λ s. map number_of (values_at role place s)) (λ s. numbers_of place s.row.key) xs (Each-weaker (IsOfHead fields head) (λ s. map number_of (values_at role place s) ≡ numbers_of place s.row.key) (λ s of_head. ap (map number_of) (values-same n fields head keeps role place s is at of_head)) xs alike.first))
-      ∙ (same-marks int_cmp int_cmp_total int_tied n fields head keeps (λ key start bucket. numbers_of place key) xs ys alike
+      ∙ (same-marks int_cmp int_cmp_total whole_tied n fields head keeps (λ key start bucket. numbers_of place key) xs ys alike
       ∙ sym (ap (ascending int_cmp) (flat-same (λ s. map number_of (values_at role place s)) (λ s. numbers_of place s.row.key) ys (Each-weaker (IsOfHead fields head) (λ s. map number_of (values_at role place s) ≡ numbers_of place s.row.key) (λ s of_head. ap (map number_of) (values-same n fields head keeps role place s is at of_head)) ys alike.second))))
 
   same-keys : (role : Role) (place : ℕ) (xs ys : List Sample) → role ≡ Dimension → IsRoleAt role fields place → Alike n fields head keeps xs ys → keys_at role place xs ≡ keys_at role place ys
@@ -124,7 +125,7 @@ module _ (n : ℕ) (some : 0 < n) (fields : List Field) (head : Head) (keeps : K
   same-filled wide xs ys some_wide multiple alike =
       let within : (λ s. bucket_start wide s.row.time ∷ []) ≡ (λ (s : Sample). bucket_start wide (bucket_start n s.row.time) ∷ []) = fun_ext (λ s. ap (λ b. b ∷ []) (sym (nest n wide s.row.time some_wide some multiple))) in
       ap (ascending int_cmp) (map-flat (λ s. bucket_start wide s.row.time) xs ∙ ap (λ f. flat_map f xs) within)
-      ∙ (same-marks int_cmp int_cmp_total int_tied n fields head keeps (λ key start bucket. bucket_start wide bucket ∷ []) xs ys alike
+      ∙ (same-marks int_cmp int_cmp_total whole_tied n fields head keeps (λ key start bucket. bucket_start wide bucket ∷ []) xs ys alike
       ∙ sym (ap (ascending int_cmp) (map-flat (λ s. bucket_start wide s.row.time) ys ∙ ap (λ f. flat_map f ys) within)))
 
   -- ---- one aggregation, over any that agree below it

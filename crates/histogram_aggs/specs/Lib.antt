@@ -22,6 +22,5 @@ pub mod Sets
 pub mod Stands
 pub mod Tallies
 pub mod TallyLaws
-pub mod ValueLaws
 pub mod WholeLaws
 pub mod WidenLaws

@@ -16,10 +16,11 @@ use Rattle.row_cells.specs.RowLists.{in_row_order}
 use Rattle.downsample_fold.specs.Columns.{total_of}
 use Rattle.downsample_fold.specs.Totals.{total_over}
 use Rattle.downsample_fold.specs.Measures.{gauge_in, rising_in}
+use Rattle.search_filter.specs.Values.{number_of}
 use Rattle.histogram_aggs.specs.declared.aggs.AggKind.{AggKind}
 use Rattle.histogram_aggs.specs.declared.aggs.AggKind.TheVariants.{Min, Max, Sum, Increase}
 use Rattle.histogram_aggs.specs.Sets.{ascending}
-use Rattle.histogram_aggs.specs.Samples.{Sample, rows_in, values_at, number_of}
+use Rattle.histogram_aggs.specs.Samples.{Sample, rows_in, values_at}
 
 abbrev pub first_of : {A : Type 0} → List A → Option A
 first_of [] = None

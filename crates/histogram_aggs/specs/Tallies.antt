@@ -10,12 +10,13 @@ use Rattle.row_cells.specs.declared.schemas.Role.TheVariants.{Gauge as GaugeRole
 use Rattle.row_cells.specs.declared.rows.Cell.{Cell}
 use Rattle.row_cells.specs.Merging.{parts_of}
 use Rattle.downsample_fold.specs.Columns.{total_of}
+use Rattle.search_filter.specs.Values.{number_of}
 use Rattle.histogram_aggs.specs.declared.aggs.AggKind.{AggKind}
 use Rattle.histogram_aggs.specs.declared.aggs.AggKind.TheVariants.{Min, Max, Sum, ValueCount, Increase, Terms, DateHistogram}
 use Rattle.histogram_aggs.specs.declared.tallies.Tally.{Tally}
 use Rattle.histogram_aggs.specs.declared.tallies.Tally.TheVariants.{Measured, Least, Greatest, Total, Number}
 use Rattle.histogram_aggs.specs.Sets.{ascending}
-use Rattle.histogram_aggs.specs.Samples.{Sample, values_by, number_of}
+use Rattle.histogram_aggs.specs.Samples.{Sample, values_by}
 use Rattle.histogram_aggs.specs.Metrics.{first_of, last_of, gauge_all, gauge_metric, numbers_at}
 
 -- of numbers, what the kind asks for

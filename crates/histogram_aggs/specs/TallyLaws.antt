@@ -18,17 +18,18 @@ use Rattle.row_cells.specs.declared.schemas.Role.{Role}
 use Rattle.row_cells.specs.declared.schemas.Role.TheVariants.{Time, Dimension, Gauge as GaugeRole, Counter, Label}
 use Rattle.downsample_fold.specs.Columns.{cell_of}
 use Rattle.downsample_fold.specs.Measures.{gauge_in}
+use Rattle.search_filter.specs.Values.{number_of}
+use Rattle.search_filter.specs.ValueLaws.{whole_tied}
 use Rattle.histogram_aggs.specs.declared.aggs.AggKind.{AggKind}
 use Rattle.histogram_aggs.specs.declared.aggs.AggKind.TheVariants.{Min, Max, Sum, ValueCount, Increase, Terms, DateHistogram}
 use Rattle.histogram_aggs.specs.declared.tallies.Tally.TheVariants.{Measured, Least, Greatest, Total, Number}
 use Rattle.histogram_aggs.specs.DownLaws.{gauges-either}
 use Rattle.histogram_aggs.specs.JoinLaws.{gauge_all-append}
 use Rattle.histogram_aggs.specs.Metrics.{first_of, last_of, gauge_all, numbers_at}
-use Rattle.histogram_aggs.specs.Samples.{Sample, number_of, values_at}
+use Rattle.histogram_aggs.specs.Samples.{Sample, values_at}
 use Rattle.histogram_aggs.specs.Sets.{by_order, insert_once, ascending}
 use Rattle.histogram_aggs.specs.SetLaws.{Ascends, ascending-ascends}
 use Rattle.histogram_aggs.specs.Tallies.{of_numbers, tally_over, tally_by, both_tallies, either_least, either_greatest}
-use Rattle.histogram_aggs.specs.ValueLaws.{int_tied}
 
 -- ---- least
 
@@ -66,11 +67,11 @@ greatest_all [] = None
 greatest_all (v ∷ vs) = either_greatest (Some v) (greatest_all vs)
 
 -- behind a greater first element the last one is greater too
-last-above : (v w : ℤ) (ws : List ℤ) → int_cmp v w ≡ Less → Ascends int_cmp int_cmp_total int_tied (w ∷ ws) → either_greatest (Some v) (last_of (w ∷ ws)) ≡ last_of (w ∷ ws)
+last-above : (v w : ℤ) (ws : List ℤ) → int_cmp v w ≡ Less → Ascends int_cmp int_cmp_total whole_tied (w ∷ ws) → either_greatest (Some v) (last_of (w ∷ ws)) ≡ last_of (w ∷ ws)
 last-above v w [] below up = ap Some (let r = int_ranked v w Less (sym below) in omega (arith, ints, clamps, r))
 last-above v w (x ∷ ws) below up = last-above v x ws (int_cmp_total.trans v w x below up.0.0) up.1
 
-last-insert : (v : ℤ) (ws : List ℤ) → Ascends int_cmp int_cmp_total int_tied ws → last_of (insert_once int_cmp v ws) ≡ either_greatest (Some v) (last_of ws)
+last-insert : (v : ℤ) (ws : List ℤ) → Ascends int_cmp int_cmp_total whole_tied ws → last_of (insert_once int_cmp v ws) ≡ either_greatest (Some v) (last_of ws)
 last-insert v [] up = refl
 last-insert v (w ∷ ws) up = by_case (int_cmp v w) refl (last-insert v ws up.1)
   where
@@ -87,19 +88,19 @@ last-insert v (w ∷ ws) up = by_case (int_cmp v w) refl (last-insert v ws up.1)
     with_first [] is = ap Some (let r = int_ranked v w Greater (sym is) in omega (arith, ints, clamps, r))
     with_first (u ∷ us) is = refl
 
-    equal_first : (us : List ℤ) → v ≡ w → Ascends int_cmp int_cmp_total int_tied (w ∷ us) → either_greatest (Some v) (last_of (w ∷ us)) ≡ last_of (w ∷ us)
+    equal_first : (us : List ℤ) → v ≡ w → Ascends int_cmp int_cmp_total whole_tied (w ∷ us) → either_greatest (Some v) (last_of (w ∷ us)) ≡ last_of (w ∷ us)
     equal_first [] is up = ap Some (omega (arith, ints, clamps, is))
     equal_first (u ∷ us) is up = last-above v u us (ap (λ x. int_cmp x u) is ∙ up.0.0) up.1
 
     by_case : (o : Ordering) → int_cmp v w ≡ o → last_of (insert_once int_cmp v ws) ≡ either_greatest (Some v) (last_of ws)
         → last_of (by_order o (v ∷ w ∷ ws) (w ∷ ws) (w ∷ insert_once int_cmp v ws)) ≡ either_greatest (Some v) (last_of (w ∷ ws))
     by_case Less is later = sym (last-above v w ws is up)
-    by_case Equal is later = sym (equal_first ws (int_tied v w is) up)
+    by_case Equal is later = sym (equal_first ws (whole_tied v w is) up)
     by_case Greater is later = last-behind ws ∙ (later ∙ with_first ws is)
 
 last-greatest : (vs : List ℤ) → last_of (ascending int_cmp vs) ≡ greatest_all vs
 last-greatest [] = refl
-last-greatest (v ∷ vs) = last-insert v (ascending int_cmp vs) (ascending-ascends int_cmp int_cmp_total int_tied vs) ∙ ap (either_greatest (Some v)) (last-greatest vs)
+last-greatest (v ∷ vs) = last-insert v (ascending int_cmp vs) (ascending-ascends int_cmp int_cmp_total whole_tied vs) ∙ ap (either_greatest (Some v)) (last-greatest vs)
 
 greatest-assoc : (a b c : Option ℤ) → either_greatest (either_greatest a b) c ≡ either_greatest a (either_greatest b c)
 greatest-assoc None b c = refl

@@ -1,7 +1,7 @@
 //! Metrics over rows, added up in any grouping.
 ghost use Rattle.std.specs.Prelude.{◌≡◌, ◌+◌, ◌≤◌, ◌^◌, ◌↔◌, ◌+ℤ◌, [], ◌∷◌, map, IfOk, IsTrue};
 ghost use Rattle.fold_law.specs.Gauges.{merge_gauges, reach_of_gauge};
-ghost use Rattle.histogram_aggs.specs.Samples as samples;
+ghost use Rattle.search_filter.specs.Values as spec;
 ghost use Rattle.histogram_aggs.specs.Tallies.{both_tallies, either_greatest, either_least, of_numbers, tally_by};
 
 use crate::aggs::AggKind;
@@ -134,7 +134,7 @@ fn of_one(kind: AggKind, value: i64) -> Tally
 }
 
 fn number_of(value: &Scalar) -> i64
-    ensures { result ≡ samples.number_of value.now }
+    ensures { result ≡ spec.number_of value.now }
 {
     match value {
         Scalar::Whole(number) => *number,
@@ -144,13 +144,13 @@ fn number_of(value: &Scalar) -> i64
 }
 
 fn of_value(kind: AggKind, value: &Scalar) -> Tally
-    ensures { result ≡ of_numbers kind (samples.number_of value.now ∷ []) }
+    ensures { result ≡ of_numbers kind (spec.number_of value.now ∷ []) }
 {
     of_one(kind, number_of(value))
 }
 
 fn of_values(kind: AggKind, values: &[Scalar]) -> Result<Tally, NoMemory>
-    ensures { IfOk result (λ tally. tally ≡ of_numbers kind (map samples.number_of values.now)) }
+    ensures { IfOk result (λ tally. tally ≡ of_numbers kind (map spec.number_of values.now)) }
 {
     let mut tally = of_none(kind);
     for value in values {
@@ -160,7 +160,7 @@ fn of_values(kind: AggKind, values: &[Scalar]) -> Result<Tally, NoMemory>
 }
 
 fn of_cell(kind: AggKind, cell: &Cell) -> Result<Tally, NoMemory>
-    ensures { IfOk result (λ tally. tally ≡ of_numbers kind (map samples.number_of (samples.values_of cell.now))) }
+    ensures { IfOk result (λ tally. tally ≡ of_numbers kind (map spec.number_of (spec.values_of cell.now))) }
 {
     match cell {
         Cell::Absent => Ok(of_none(kind)),

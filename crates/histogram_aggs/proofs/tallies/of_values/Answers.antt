@@ -1,5 +1,5 @@
 use Rattle.std.proofs.Common.{◌∙◌, ap, sym, map, take}
-use Rattle.histogram_aggs.specs.Samples.{number_of}
+use Rattle.search_filter.specs.Values.{number_of}
 use Rattle.histogram_aggs.specs.Tallies.{both_tallies, of_numbers}
 use Rattle.histogram_aggs.specs.TallyLaws.{values_step}
 use Rattle.histogram_aggs.proofs.tallies.of_values.Goals as goal

@@ -1,5 +1,5 @@
 use Rattle.std.proofs.Common.{◌≡◌, map, take}
-use Rattle.histogram_aggs.specs.Samples.{number_of}
+use Rattle.search_filter.specs.Values.{number_of}
 use Rattle.histogram_aggs.specs.Tallies.{of_numbers}
 use Rattle.histogram_aggs.proofs.tallies.of_values.Given as goal
 
