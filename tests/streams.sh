@@ -1,6 +1,8 @@
 #!/usr/bin/env bash
 # Tries a built program, whose path is the first argument, over real streams: full, closed, of another kind, cut off.
-# One line a case; the last line is the number of failures, and the status is 0 where there are none.
+# One line a case, then how many were done; the last line is the number of failures, and the status is 0 where there are none.
+#
+# Cases whose tool isn't there are left out. With GATE_PASSED=1 it is a failure that others weren't done.
 set -u
 program=$(realpath "$1") || exit 2
 there=$(mktemp -d) || exit 2
@@ -8,10 +10,21 @@ trap 'rm -rf "$there"' EXIT
 cd "$there" || exit 2
 printf 'GET /m/_count\n' > one.tsds
 printf '200 {"count":0}\n' > one.replies
+# How many cases there are, how many were done, and how many have no tool here.
+all=52
+cases=0
+without=0
 failures=0
+
+# Leaves out so many cases whose tool isn't there.
+leave_out() {
+    echo "left out: $2"
+    without=$((without + $1))
+}
 
 # A case: its name, the wanted status, and the status that came.
 check() {
+    cases=$((cases + 1))
     if [ "$2" -eq "$3" ]; then
         echo "ok: $1"
     else
@@ -22,6 +35,7 @@ check() {
 
 # What a case wrote must be the same as a file.
 same() {
+    cases=$((cases + 1))
     if cmp -s "$2" "$3"; then
         echo "ok: $1"
     else
@@ -139,7 +153,11 @@ ssize_t write(int to, const void *piece, size_t most) {
     return to == 1 && is_interrupted() ? -1 : next(to, piece, most < 5 ? most : 5);
 }
 END
-if command -v cc > /dev/null && cc -shared -fPIC -o interrupt.so interrupt.c -ldl 2> /dev/null; then
+if ! command -v cc > /dev/null; then
+    leave_out 3 "calls that are interrupted, which needs cc"
+elif ! cc -shared -fPIC -o interrupt.so interrupt.c -ldl 2> /dev/null; then
+    echo "not done: calls that are interrupted, whose functions cc doesn't make"
+else
     LD_PRELOAD=$there/interrupt.so "$program" run < one.tsds > out 2> err
     status=$?
     if [ -e interrupted ]; then
@@ -147,10 +165,8 @@ if command -v cc > /dev/null && cc -shared -fPIC -o interrupt.so interrupt.c -ld
         same "the reply behind them, five bytes at a time" out one.replies
         same "nothing on standard error" err nothing
     else
-        echo "left out: calls that are interrupted, which needs a program that calls the C library"
+        echo "not done: calls that are interrupted, which needs a program that calls the C library"
     fi
-else
-    echo "left out: calls that are interrupted, which needs cc"
 fi
 
 # A sink that takes a part of a reply and then fails: a file that may have 1,024 bytes, and a pipe whose reader leaves.
@@ -213,8 +229,13 @@ if command -v prlimit > /dev/null; then
     same "out of memory on standard error for it" told no_memory
     same "nothing on standard output for it" out nothing
 else
-    echo "left out: no memory for the words, which needs prlimit"
+    leave_out 3 "no memory for the words, which needs prlimit"
 fi
 
+echo "$cases of $all cases done"
+if [ "${GATE_PASSED:-0}" = 1 ] && [ $((cases + without)) -ne "$all" ]; then
+    echo "FAILED: $cases cases and $without without a tool aren't all $all"
+    failures=$((failures + 1))
+fi
 echo "$failures"
 [ "$failures" -eq 0 ]
