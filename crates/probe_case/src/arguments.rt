@@ -28,6 +28,31 @@ pub fn number_or(case: &Value, name: &str, otherwise: i64) -> i64 {
     }
 }
 
+/// The whole number that a member is, or another one where there is no such member.
+pub fn optional_number(tree: &Value, name: &str, otherwise: i64) -> Option<i64> {
+    match tree.get(name) {
+        Some(member) => whole(member),
+        None => Some(otherwise),
+    }
+}
+
+/// Whether a member is true; one that isn't there is false.
+pub fn optional_flag(tree: &Value, name: &str) -> Option<bool> {
+    match tree.get(name) {
+        Some(member) => member.as_bool(),
+        None => Some(false),
+    }
+}
+
+/// The elements of the list that a member is; of one that isn't there none.
+pub fn optional_list<'a>(tree: &'a Value, name: &str) -> Option<&'a [Value]> {
+    match tree.get(name) {
+        Some(Value::Array(list)) => Some(list.as_slice()),
+        Some(_) => None,
+        None => Some(&[]),
+    }
+}
+
 /// The elements of a list, or none where the case has no such list.
 pub fn list_or_none<'a>(case: &'a Value, name: &str) -> &'a [Value] {
     match case.get(name) {
@@ -46,9 +71,9 @@ fn parsed_of(alloc: Global, value: &Value) -> Option<Value> {
     read_line(alloc, bytes_of(alloc, value)?.as_slice()).ok()
 }
 
-fn counts_of(alloc: Global, list: &[Value]) -> Option<Vec<u64>> {
+fn counts_of(alloc: Global, case: &Value, name: &str) -> Option<Vec<u64>> {
     let mut counts = Vec::new(alloc);
-    for element in list {
+    for element in optional_list(case, name)? {
         counts.push(element.as_u64()?).ok()?;
     }
     Some(counts)
@@ -65,8 +90,15 @@ fn words_of<'a>(alloc: Global, list: &'a [Value]) -> Option<Vec<&'a str>> {
 impl Trial {
     /// The elements of a list.
     pub fn list<'a>(&mut self, case: &'a Value, name: &str) -> &'a [Value] {
-        self.need(has(case, name));
-        list_or_none(case, name)
+        match case.get(name) {
+            Some(Value::Array(list)) => list.as_slice(),
+            _ => self.no_list(),
+        }
+    }
+
+    fn no_list(&mut self) -> &'static [Value] {
+        self.give_up();
+        &[]
     }
 
     /// A whole number of signed 64 bits.
@@ -113,7 +145,7 @@ impl Trial {
 
     /// Whole numbers of a list that the case may have.
     pub fn counts(&mut self, case: &Value, name: &str) -> Vec<u64> {
-        match counts_of(self.alloc, list_or_none(case, name)) {
+        match counts_of(self.alloc, case, name) {
             Some(counts) => counts,
             None => self.nothing(),
         }

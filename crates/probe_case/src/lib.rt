@@ -5,10 +5,14 @@ mod arguments;
 mod lists;
 mod parts;
 mod pieces;
+mod sweeps;
 mod trial;
 
-pub use arguments::{has, is_set, list_or_none, number_or};
+pub use arguments::{
+    has, is_set, list_or_none, number_or, optional_flag, optional_list, optional_number,
+};
 pub use lists::put_blocks;
 pub use parts::{next_chance, part, turn};
 pub use pieces::bytes_of;
-pub use trial::{Trial, put_sweep};
+pub use sweeps::{Checks, Reading, Sweep};
+pub use trial::Trial;

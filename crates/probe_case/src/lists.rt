@@ -1,7 +1,8 @@
 //! Lists of whole numbers, and the packed blocks of them.
+use crate::arguments::optional_number;
 use crate::parts::next_chance;
 use column_pack::pack_block;
-use json_walk::whole;
+use json_walk::{has_no_other, only_member, whole};
 use serde_json::Value;
 use std::alloc::Global;
 
@@ -25,25 +26,17 @@ fn put_stepped(times: i64, from: i64, step: i64, into: &mut Vec<i64>) -> Option<
     Some(())
 }
 
-/// The whole number of a member, or 0.
-fn number_at(element: &Value, name: &str) -> i64 {
-    match element.get(name) {
-        Some(member) => whole(member).unwrap_or(0),
-        None => 0,
-    }
-}
-
 /// Appends many numbers: `{"times":3,"from":1,"step":2}`, or `{"random":3}`.
 fn put_many(element: &Value, into: &mut Vec<i64>) -> Option<()> {
-    match element.get("random") {
-        Some(times) => put_random(times.as_u64()?, into),
-        None => put_stepped(
-            whole(element.get("times")?)?,
-            number_at(element, "from"),
-            number_at(element, "step"),
-            into,
-        ),
+    if let Some(("random", times)) = only_member(element) {
+        return put_random(times.as_u64()?, into);
     }
+    if !has_no_other(element, &["times", "from", "step"]) {
+        return None;
+    }
+    let times = whole(element.get("times")?)?;
+    let from = optional_number(element, "from", 0)?;
+    put_stepped(times, from, optional_number(element, "step", 0)?, into)
 }
 
 fn put_numbers(element: &Value, into: &mut Vec<i64>) -> Option<()> {

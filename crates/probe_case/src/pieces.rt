@@ -1,6 +1,7 @@
 //! Bytes that are put together from pieces.
+use crate::arguments::optional_number;
 use crate::lists::{numbers_in, put_blocks};
-use json_walk::whole;
+use json_walk::{has_no_other, only_member, whole};
 use serde_json::Value;
 use std::alloc::Global;
 
@@ -17,20 +18,15 @@ fn put_numbered(text: &str, number: i64, into: &mut Vec<u8>) -> Option<()> {
     Some(())
 }
 
-/// The whole number of a member, or another one.
-fn number_or(piece: &Value, name: &str, otherwise: i64) -> i64 {
-    match piece.get(name) {
-        Some(member) => whole(member).unwrap_or(otherwise),
-        None => otherwise,
-    }
-}
-
 /// Appends a text so many times, in which each `$` is a number that goes on by a step.
 fn put_times(piece: &Value, into: &mut Vec<u8>) -> Option<()> {
+    if !has_no_other(piece, &["times", "text", "from", "step"]) {
+        return None;
+    }
     let text = piece.get("text")?.as_str()?;
     let times = whole(piece.get("times")?)?;
-    let step = number_or(piece, "step", 1);
-    let mut turn = number_or(piece, "from", 0);
+    let step = optional_number(piece, "step", 1)?;
+    let mut turn = optional_number(piece, "from", 0)?;
     for _ in 0..times {
         put_numbered(text, turn, into)?;
         turn = turn.wrapping_add(step);
@@ -50,12 +46,10 @@ fn put_packed(alloc: Global, numbers: &[Value], into: &mut Vec<u8>) -> Option<()
 /// Appends what an object stands for: bytes as `{"hex":"ff"}`, packed numbers as `{"block":[1,2]}`, or a text many times
 /// as `{"times":3,"text":"a$"}`.
 fn put_made(alloc: Global, piece: &Value, into: &mut Vec<u8>) -> Option<()> {
-    if let Some(digits) = piece.get("hex") {
-        return put_hex(alloc, digits.as_str()?, into);
-    }
-    match piece.get("block") {
-        Some(numbers) => put_packed(alloc, numbers.as_array()?.as_slice(), into),
-        None => put_times(piece, into),
+    match only_member(piece) {
+        Some(("hex", digits)) => put_hex(alloc, digits.as_str()?, into),
+        Some(("block", numbers)) => put_packed(alloc, numbers.as_array()?.as_slice(), into),
+        _ => put_times(piece, into),
     }
 }
 

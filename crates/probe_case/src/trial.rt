@@ -237,25 +237,4 @@ impl Trial {
         self.name(name);
         self.flag(flag);
     }
-
-    /// The whole answer of a sweep: how many there were under a name, and how many were wrong.
-    pub fn sweep(&mut self, name: &str, number: usize, wrong: usize) {
-        self.ok();
-        self.open("{");
-        self.count_at(name, number);
-        self.count_at("wrong", wrong);
-        self.close("}");
-        self.close("}");
-    }
-}
-
-/// The answer of a sweep over a record's bytes: how many changes of a byte and fronts there are of so many bytes, and how many
-/// were answered wrongly.
-pub fn put_sweep(bytes: usize, wrong: usize, trial: &mut Trial) {
-    trial.ok();
-    trial.open("{");
-    trial.count_at("changes", bytes.wrapping_mul(255));
-    trial.count_at("fronts", bytes);
-    trial.count_at("wrong", wrong);
-    trial.close("}}");
 }

@@ -9,7 +9,7 @@ fn of_blocks(call: &str, case: &Value, trial: &mut Trial) -> Option<bool> {
         "unpack_block" => blocks::unpack(case, trial),
         "block_min_max_sum" => blocks::summary(case, trial),
         "damaged_block" => sweeps::damage(case, trial)?,
-        "random_blocks" => sweeps::random_blocks(case, trial)?,
+        "random_blocks" => sweeps::random_blocks(case, trial),
         _ => return Some(false),
     }
     Some(true)

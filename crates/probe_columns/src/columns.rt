@@ -5,7 +5,7 @@ use crate::blocks::put_numbers;
 use column_block::{Column, ColumnError, ColumnKind, Numbers, ReadColumn, Texts, Values};
 use edge_face::Text;
 use fold_law::Parts;
-use probe_case::{Trial, part, put_sweep, turn};
+use probe_case::{Reading, Sweep, Trial, part, turn};
 use row_cells::MOST_DOCUMENTS;
 use serde_json::Value;
 use std::alloc::Global;
@@ -134,61 +134,64 @@ pub fn read(case: &Value, trial: &mut Trial) -> Option<()> {
     }
 }
 
-/// Whether a column ends behind a place, and is spelled as the bytes.
-fn ends_behind(read: &ReadColumn, bytes: &[u8], place: usize) -> bool {
-    let used = read.used as usize;
-    place < used && read.column.bytes() == part(bytes, 0, used)
-}
-
-/// The bytes begin with no column, or with one of which they are the spelling.
-fn is_consistent(
+/// What the column that was read from bytes is, which has to have so many of them, and be their spelling.
+fn reading_of(
     alloc: Global,
     kind: ColumnKind,
     rows: u32,
+    read: &ReadColumn,
     bytes: &[u8],
-    place: usize,
-) -> Option<bool> {
+    least: usize,
+) -> Reading
+    requires { IsColumnOf kind rows read.now.column }
+{
+    let used = part(bytes, 0, read.used as usize);
+    if used.len() < least {
+        return Reading::Wrong;
+    }
+    Reading::of_taken(is_spelled(alloc, kind, &read.column, rows, used))
+}
+
+/// What bytes begin with: no column, or one that has so many bytes at least.
+fn reading(alloc: Global, kind: ColumnKind, rows: u32, bytes: &[u8], least: usize) -> Reading {
     match Column::read(alloc, kind, rows, bytes) {
-        Ok(read) => Some(ends_behind(&read, bytes, place)),
-        Err(ColumnError::BadColumn) => Some(true),
-        Err(ColumnError::NoMemory) => None,
+        Ok(read) => reading_of(alloc, kind, rows, &read, bytes, least),
+        Err(ColumnError::BadColumn) => Reading::Refused,
+        Err(ColumnError::NoMemory) => Reading::Wrong,
     }
 }
 
-/// How many of the other values of a byte are answered wrongly.
-fn wrong_turns(
+/// Reads a column with each other value of a byte. No column ends before that byte, as there is one that doesn't.
+fn sweep_byte(
     alloc: Global,
     kind: ColumnKind,
     rows: u32,
     bytes: &mut [u8],
     place: usize,
-) -> Option<usize> {
-    let mut wrong = 0usize;
+    sweep: &mut Sweep,
+) {
     for _ in 0..255 {
         turn(bytes, place);
-        wrong = wrong.wrapping_add(usize::from(!is_consistent(alloc, kind, rows, bytes, place)?));
+        sweep.note_change(reading(alloc, kind, rows, bytes, place.wrapping_add(1)));
     }
     turn(bytes, place);
-    Some(wrong)
 }
 
-/// How many changes of a byte and shorter fronts are answered wrongly.
-fn wrong_changes(alloc: Global, kind: ColumnKind, rows: u32, bytes: &mut [u8]) -> Option<usize> {
-    let mut wrong = 0usize;
+fn swept(alloc: Global, kind: ColumnKind, rows: u32, bytes: &mut [u8]) -> Sweep {
+    let mut sweep = Sweep::new();
     for place in 0..bytes.len() {
-        let is_front = Column::read(alloc, kind, rows, part(bytes, 0, place)).is_ok();
-        wrong = wrong.wrapping_add(usize::from(is_front));
-        wrong = wrong.wrapping_add(wrong_turns(alloc, kind, rows, bytes, place)?);
+        sweep.note_front(reading(alloc, kind, rows, part(bytes, 0, place), 0));
+        sweep_byte(alloc, kind, rows, bytes, place, &mut sweep);
     }
-    Some(wrong)
+    sweep
 }
 
-/// Each byte of a column is changed to each other one, and each shorter front is read.
+/// A column is read, then with each byte changed to each other one, and each shorter front of it.
 pub fn damage(case: &Value, trial: &mut Trial) -> Option<()> {
     let kind = kind_of(case, trial)?;
     let rows = rows_of(case, trial)?;
     let mut bytes = trial.bytes(case, "bytes");
-    let wrong = wrong_changes(trial.alloc, kind, rows, bytes.as_mut_slice())?;
-    put_sweep(bytes.len(), wrong, trial);
+    let itself = reading(trial.alloc, kind, rows, bytes.as_slice(), bytes.len());
+    swept(trial.alloc, kind, rows, bytes.as_mut_slice()).put(itself, trial);
     Some(())
 }

@@ -2,7 +2,7 @@
 use crate::blocks::put_numbers;
 use crate::ranges::RANGES;
 use packed_lists::{Cursor, NumberList, Packer, ReadNumbers};
-use probe_case::{Trial, part, put_blocks};
+use probe_case::{Checks, Trial, part, put_blocks};
 use serde_json::Value;
 use std::alloc::Global;
 
@@ -34,14 +34,14 @@ fn are_numbers(
     Some(values.as_slice() == wanted && are_at(list, wanted, from))
 }
 
-/// How many ranges have other numbers.
-fn wrong_ranges(alloc: Global, list: &NumberList, numbers: &[i64]) -> Option<usize> {
-    let mut wrong = 0usize;
+/// Whether ranges have their numbers.
+fn check_ranges(alloc: Global, list: &NumberList, numbers: &[i64]) -> Checks {
+    let mut checks = Checks::new();
     for (from, to) in RANGES {
-        let is_right = are_numbers(alloc, list, numbers, from as usize, to as usize)?;
-        wrong = wrong.wrapping_add(usize::from(!is_right));
+        let are_right = are_numbers(alloc, list, numbers, from as usize, to as usize);
+        checks.note(are_right == Some(true));
     }
-    Some(wrong)
+    checks
 }
 
 /// The list that is read from the bytes of so many numbers, which are their blocks, and no list of one number more.
@@ -63,8 +63,7 @@ fn read_back(alloc: Global, numbers: &[i64]) -> Option<ReadNumbers> {
 pub fn number_list(case: &Value, trial: &mut Trial) -> Option<()> {
     let numbers = trial.numbers(case, "numbers");
     let read = read_back(trial.alloc, numbers.as_slice())?;
-    let wrong = wrong_ranges(trial.alloc, &read.numbers, numbers.as_slice())?;
-    trial.sweep("ranges", RANGES.len(), wrong);
+    check_ranges(trial.alloc, &read.numbers, numbers.as_slice()).put("ranges", trial);
     Some(())
 }
 

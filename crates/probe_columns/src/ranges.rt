@@ -2,8 +2,8 @@
 use crate::columns::{is_spelled, kind_of, rows_of};
 use column_block::{Column, ColumnKind, Values};
 use fold_law::{Gauge, Parts};
-use json_walk::whole;
-use probe_case::{Trial, next_chance, number_or, part};
+use json_walk::{has_no_other, whole};
+use probe_case::{Checks, Trial, next_chance, optional_number, part};
 use serde_json::Value;
 use sqlite_items::Items;
 use std::alloc::Global;
@@ -43,13 +43,14 @@ fn put_random(times: u64, gap: u64, into: &mut Vec<Option<i64>>) -> Option<()> {
 
 /// Appends a number or null, or `{"random":300,"gap":3}`.
 fn put_rows(element: &Value, into: &mut Vec<Option<i64>>) -> Option<()> {
-    match element.get("random") {
-        Some(times) => {
-            let gap = number_or(element, "gap", 0).unsigned_abs();
-            put_random(times.as_u64()?, gap, into)
-        }
-        None => into.push(whole(element)).ok(),
+    if element.is_null() {
+        return into.push(None).ok();
     }
+    if !has_no_other(element, &["random", "gap"]) {
+        return into.push(Some(whole(element)?)).ok();
+    }
+    let gap = optional_number(element, "gap", 0)?.unsigned_abs();
+    put_random(element.get("random")?.as_u64()?, gap, into)
 }
 
 /// Rows of whole numbers.
@@ -152,22 +153,23 @@ fn are_rows(
     }
 }
 
-/// How many ranges have another fold than their values.
-fn wrong_folds(alloc: Global, column: &Column) -> Option<usize> {
-    let mut wrong = 0usize;
+/// Whether ranges fold to what their values add up to.
+fn check_folds(alloc: Global, column: &Column) -> Checks {
+    let mut checks = Checks::new();
     for (from, to) in RANGES {
-        wrong = wrong.wrapping_add(usize::from(!is_folded(alloc, column, from, to)?));
+        checks.note(is_folded(alloc, column, from, to) == Some(true));
     }
-    Some(wrong)
+    checks
 }
 
-/// How many ranges have other rows.
-fn wrong_rows(alloc: Global, column: &Column, rows: &[Option<i64>]) -> Option<usize> {
-    let mut wrong = 0usize;
+/// Whether ranges have their rows and fold to what these add up to.
+fn check_rows(alloc: Global, column: &Column, rows: &[Option<i64>]) -> Checks {
+    let mut checks = Checks::new();
     for (from, to) in RANGES {
-        wrong = wrong.wrapping_add(usize::from(!are_rows(alloc, column, rows, from, to)?));
+        let are_right = are_rows(alloc, column, rows, from, to) == Some(true);
+        checks.note(are_right && is_folded(alloc, column, from, to) == Some(true));
     }
-    Some(wrong)
+    checks
 }
 
 /// Whether a column is read from its own bytes, which are those of its values.
@@ -185,9 +187,7 @@ pub fn of_rows(case: &Value, trial: &mut Trial) -> Option<()> {
     let column = column_of(trial.alloc, rows.as_slice())?;
     let count = rows.len().min(1_000_000) as u32;
     trial.need(is_read(trial.alloc, &column, count)?);
-    let wrong = wrong_folds(trial.alloc, &column)?;
-    let other = wrong_rows(trial.alloc, &column, rows.as_slice())?;
-    trial.sweep("ranges", RANGES.len(), wrong.wrapping_add(other));
+    check_rows(trial.alloc, &column, rows.as_slice()).put("ranges", trial);
     Some(())
 }
 
@@ -197,7 +197,6 @@ pub fn of_column(case: &Value, trial: &mut Trial) -> Option<()> {
     let rows = rows_of(case, trial)?;
     let bytes = trial.bytes(case, "bytes");
     let read = Column::read(trial.alloc, kind, rows, bytes.as_slice()).ok()?;
-    let wrong = wrong_folds(trial.alloc, &read.column)?;
-    trial.sweep("ranges", RANGES.len(), wrong);
+    check_folds(trial.alloc, &read.column).put("ranges", trial);
     Some(())
 }

@@ -1,7 +1,7 @@
 //! Blocks whose bytes are changed, and blocks of lists that look like chance.
 use crate::blocks::{block_of, gives};
 use column_pack::{block_min_max_sum, unpack_block};
-use probe_case::{Trial, next_chance, part, put_sweep, turn};
+use probe_case::{Checks, Reading, Sweep, Trial, next_chance, part, turn};
 use serde_json::Value;
 use std::alloc::Global;
 
@@ -11,48 +11,40 @@ fn is_block_of(alloc: Global, bytes: &[u8], values: &[i64]) -> Option<bool> {
     Some(block.as_slice() == bytes && gives(bytes, values))
 }
 
-/// The bytes are no block by both calls, or the one block of its values.
-fn is_consistent(alloc: Global, bytes: &[u8]) -> Option<bool> {
+/// Bytes are no block where both calls say so, and else the one block of its values.
+fn reading(alloc: Global, bytes: &[u8]) -> Reading {
     let mut values = [0i64; 128];
     match unpack_block(bytes, &mut values) {
-        Ok(n) => is_block_of(alloc, bytes, &values[..n]),
-        Err(_) => Some(block_min_max_sum(bytes).is_err()),
+        Ok(n) => Reading::of_taken(is_block_of(alloc, bytes, &values[..n])),
+        Err(_) if block_min_max_sum(bytes).is_err() => Reading::Refused,
+        Err(_) => Reading::Wrong,
     }
 }
 
-/// How many of the other values of a byte are answered wrongly.
-fn wrong_turns(alloc: Global, block: &mut [u8], place: usize) -> Option<usize> {
-    let mut wrong = 0usize;
+/// Reads a block with each other value of a byte.
+fn sweep_byte(alloc: Global, block: &mut [u8], place: usize, sweep: &mut Sweep) {
     for _ in 0..255 {
         turn(block, place);
-        if !is_consistent(alloc, block)? {
-            wrong = wrong.wrapping_add(1);
-        }
+        sweep.note_change(reading(alloc, block));
     }
     turn(block, place);
-    Some(wrong)
 }
 
-fn is_front_taken(block: &[u8], place: usize) -> bool {
-    unpack_block(part(block, 0, place), &mut [0i64; 128]).is_ok()
-}
-
-/// How many changes of a byte and shorter fronts of a block are answered wrongly.
-fn wrong_changes(alloc: Global, block: &mut [u8]) -> Option<usize> {
-    let mut wrong = 0usize;
+fn swept(alloc: Global, block: &mut [u8]) -> Sweep {
+    let mut sweep = Sweep::new();
     for place in 0..block.len() {
-        wrong = wrong.wrapping_add(usize::from(is_front_taken(block, place)));
-        wrong = wrong.wrapping_add(wrong_turns(alloc, block, place)?);
+        sweep.note_front(reading(alloc, part(block, 0, place)));
+        sweep_byte(alloc, block, place, &mut sweep);
     }
-    Some(wrong)
+    sweep
 }
 
-/// Each byte of the block of values is changed to each other one, and each shorter front is read.
+/// The block of values is read, then with each byte changed to each other one, and each shorter front of it.
 pub fn damage(case: &Value, trial: &mut Trial) -> Option<()> {
     let values = trial.numbers(case, "values");
     let mut block = block_of(trial.alloc, values.as_slice())?;
-    let wrong = wrong_changes(trial.alloc, block.as_mut_slice())?;
-    put_sweep(block.len(), wrong, trial);
+    let itself = reading(trial.alloc, block.as_slice());
+    swept(trial.alloc, block.as_mut_slice()).put(itself, trial);
     Some(())
 }
 
@@ -89,42 +81,37 @@ fn random_list(alloc: Global, seed: u64, width: u32, size: u64, shape: u32) -> O
     Some(values)
 }
 
-/// Whether the block of such a list doesn't give it back.
-fn is_lost(alloc: Global, number: u64, width: u32, size: u64, shape: u32) -> Option<bool> {
+/// Whether the block of such a list gives it back.
+fn is_kept(alloc: Global, number: u64, width: u32, size: u64, shape: u32) -> Option<bool> {
     let seed = number.wrapping_mul(88_172_645_463_325_253);
     let values = random_list(alloc, seed, width, size, shape)?;
     let block = block_of(alloc, values.as_slice())?;
-    Some(!gives(block.as_slice(), values.as_slice()))
+    Some(gives(block.as_slice(), values.as_slice()))
 }
 
-/// How many of the four lists of a size aren't given back.
-fn lost_of_size(alloc: Global, number: u64, width: u32, size: u64) -> Option<usize> {
-    let mut lost = 0usize;
+/// Packs the four lists of a size.
+fn pack_size(alloc: Global, number: u64, width: u32, size: u64, checks: &mut Checks) {
     for shape in 0..4u32 {
         let number = number.wrapping_add(u64::from(shape)).wrapping_add(1);
-        lost = lost.wrapping_add(usize::from(is_lost(alloc, number, width, size, shape)?));
+        checks.note(is_kept(alloc, number, width, size, shape) == Some(true));
     }
-    Some(lost)
 }
 
-/// How many lists of a number of bits aren't given back.
-fn lost_of_width(alloc: Global, width: u32, sizes: &[Value]) -> Option<usize> {
-    let mut lost = 0usize;
+/// Packs the lists of a number of bits.
+fn pack_width(alloc: Global, width: u32, sizes: &[u64], checks: &mut Checks) {
     let mut number = u64::from(width).wrapping_mul(1_000);
     for size in sizes {
-        lost = lost.wrapping_add(lost_of_size(alloc, number, width, size.as_u64()?)?);
+        pack_size(alloc, number, width, *size, checks);
         number = number.wrapping_add(4);
     }
-    Some(lost)
 }
 
 /// Lists of each number of bits, of several sizes and shapes: how many there are, and how many aren't given back.
-pub fn random_blocks(case: &Value, trial: &mut Trial) -> Option<()> {
-    let sizes = trial.list(case, "sizes");
-    let mut lost = 0usize;
+pub fn random_blocks(case: &Value, trial: &mut Trial) {
+    let sizes = trial.counts(case, "sizes");
+    let mut checks = Checks::new();
     for width in 0..=64u32 {
-        lost = lost.wrapping_add(lost_of_width(trial.alloc, width, sizes)?);
+        pack_width(trial.alloc, width, sizes.as_slice(), &mut checks);
     }
-    trial.sweep("lists", sizes.len().wrapping_mul(260), lost);
-    Some(())
+    checks.put("lists", trial);
 }

@@ -2,7 +2,7 @@
 use crate::rows::{case_rows, row_of, schema_at};
 use crate::shown::ok_row;
 use edge_face::bytes_order;
-use probe_case::{Trial, is_set, number_or, part};
+use probe_case::{Trial, is_set, optional_number, part};
 use row_cells::{Cell, MOST_DOCUMENTS, Schema, copy_row, fit_cells, head_row};
 use serde_json::Value;
 use series_id::are_rows_of;
@@ -86,6 +86,6 @@ fn put_fit(case: &Value, schema: &Schema, cells: &[Cell], trial: &mut Trial) -> 
 pub fn fit(case: &Value, trial: &mut Trial) -> Option<()> {
     let schema = schema_at(trial.alloc, case, "template")?;
     let row = row_of(trial.alloc, &schema, trial.list(case, "documents").first()?)?;
-    let first = number_or(case, "first", i64::MAX).unsigned_abs() as usize;
+    let first = optional_number(case, "first", i64::MAX)?.unsigned_abs() as usize;
     put_fit(case, &schema, part(row.cells.as_slice(), 0, first), trial)
 }

@@ -22,6 +22,14 @@ pub fn interval_at(case: &Value, name: &str) -> Option<Interval> {
     Interval::read(case.get(name)?.as_str()?).ok()
 }
 
+/// The interval of a case, if it has one.
+pub fn interval_if_any(case: &Value, name: &str) -> Option<Option<Interval>> {
+    if has(case, name) {
+        return Some(Some(interval_at(case, name)?));
+    }
+    Some(None)
+}
+
 /// The schema of the folds of rows of a schema.
 fn folded_schema(alloc: Global, schema: &Schema) -> Option<Schema>
     requires { IsTemplateSchema schema.now }
@@ -154,7 +162,7 @@ fn put_refusal(kind: &str, had: i64, asked: i64, trial: &mut Trial) {
 /// Whether rows that were folded by one interval, or weren't, may be folded by another.
 pub fn check(case: &Value, trial: &mut Trial) -> Option<()> {
     let asked = interval_at(case, "asked")?;
-    match check_interval(interval_at(case, "had"), asked) {
+    match check_interval(interval_if_any(case, "had")?, asked) {
         Ok(()) => trial.ok_null(),
         Err(IntervalError::NotGreater { had, asked }) => put_refusal(
             "NotGreater",

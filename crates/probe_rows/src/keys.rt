@@ -3,7 +3,7 @@ ghost use Rattle.std.specs.Prelude.{IfSome};
 ghost use Rattle.time_text.specs.Instant.{IsInstant};
 
 use crate::rows::{document_of, schema_at};
-use probe_case::Trial;
+use probe_case::{Reading, Sweep, Trial};
 use row_cells::Key;
 use serde_json::Value;
 use series_id::{KeyError, Named, id_text, read_id, series_key};
@@ -101,41 +101,42 @@ fn changed(alloc: Global, text: &str, place: usize) -> Option<String> {
     Some(changed)
 }
 
-fn are_one(named: &Option<Named>, other: &Option<Named>) -> bool {
-    match (named, other) {
-        (Some(a), Some(b)) => a.time == b.time && a.key == b.key,
-        _ => false,
+/// Whether the id of a key and a time is a text.
+fn is_written(alloc: Global, named: &Named, text: &str) -> Option<bool> {
+    if !is_instant(named.time) {
+        return None;
+    }
+    let written = id_text(alloc, &named.key, named.time).ok()?;
+    Some(written.as_str() == text)
+}
+
+/// What a text is read as: no id, or one that is written as this text.
+fn reading_of(alloc: Global, text: &str) -> Option<Reading> {
+    match read_id(alloc, text).ok()? {
+        Some(named) => Some(Reading::of_taken(is_written(alloc, &named, text))),
+        None => Some(Reading::Refused),
     }
 }
 
-/// Whether a text with another letter at a place names the same document.
-fn is_same(alloc: Global, text: &str, named: &Option<Named>, place: usize) -> Option<bool> {
+/// What a text with another letter at a place is read as.
+fn changed_reading(alloc: Global, text: &str, place: usize) -> Option<Reading> {
     let changed = changed(alloc, text, place)?;
-    let other = read_id(alloc, changed.as_str()).ok()?;
-    Some(are_one(named, &other))
+    reading_of(alloc, changed.as_str())
 }
 
-/// How many changes of one letter name the same document.
-fn same_ids(alloc: Global, text: &str) -> Option<usize> {
-    let named = read_id(alloc, text).ok()?;
-    let mut same = 0usize;
+fn swept(alloc: Global, text: &str) -> Option<Sweep> {
+    let mut sweep = Sweep::new();
     for place in 0..text.len() {
-        if is_same(alloc, text, &named, place)? {
-            same = same.wrapping_add(1);
-        }
+        sweep.note_change(changed_reading(alloc, text, place)?);
     }
-    Some(same)
+    Some(sweep)
 }
 
-/// Each letter of an id is changed in turn: how many changes there are, and how many name the same document.
+/// An id is read, and then with each letter changed to another one.
 pub fn changed_ids(case: &Value, trial: &mut Trial) -> Option<()> {
     let text = trial.text(case, "text");
-    let same = same_ids(trial.alloc, text.as_str())?;
-    trial.ok();
-    trial.open("{");
-    trial.count_at("changes", text.as_str().len());
-    trial.count_at("same", same);
-    trial.close("}}");
+    let itself = reading_of(trial.alloc, text.as_str())?;
+    swept(trial.alloc, text.as_str())?.put(itself, trial);
     Some(())
 }
 

@@ -2,15 +2,19 @@
 ghost use Rattle.std.specs.Prelude.{IfSome};
 ghost use Rattle.time_text.specs.Instant.{IsInstant};
 
-use crate::folds::interval_at;
+use crate::folds::{interval_at, interval_if_any};
+use json_walk::has_no_other;
 use lifecycle_swap::{IndexFacts, Lifecycle, Round, Step, plan};
-use probe_case::{Trial, is_set, list_or_none, number_or};
+use probe_case::{Trial, optional_flag, optional_list, optional_number};
 use serde_json::Value;
 use sqlite_items::Items;
 use std::alloc::Global;
 use time_text::is_instant;
 
 fn round_of(element: &Value) -> Option<Round> {
+    if !has_no_other(element, &["after", "by"]) {
+        return None;
+    }
     let after = interval_at(element, "after")?;
     let by = interval_at(element, "by")?;
     Some(Round { after, by })
@@ -26,28 +30,35 @@ fn rounds_of(alloc: Global, elements: &[Value]) -> Option<Vec<Round>> {
 
 /// The lifecycle that a tree is.
 fn life_of(alloc: Global, tree: &Value) -> Option<Lifecycle> {
-    let rounds = rounds_of(alloc, list_or_none(tree, "rounds"))?;
+    if !has_no_other(tree, &["retention", "rounds"]) {
+        return None;
+    }
+    let retention = interval_if_any(tree, "retention")?;
+    let rounds = rounds_of(alloc, optional_list(tree, "rounds")?)?;
     Some(Lifecycle {
-        retention: interval_at(tree, "retention"),
+        retention,
         rounds: Items::from_vec(rounds),
     })
 }
 
 /// A member of a stream, with its place as its number.
-fn facts_of(place: usize, element: &Value) -> IndexFacts {
-    IndexFacts {
-        index: place.min(1_000) as u32,
-        end: number_or(element, "end", 0),
-        write: is_set(element, "write"),
-        interval: interval_at(element, "interval"),
-        busy: is_set(element, "busy"),
+fn facts_of(place: usize, element: &Value) -> Option<IndexFacts> {
+    if !has_no_other(element, &["end", "write", "interval", "busy"]) {
+        return None;
     }
+    Some(IndexFacts {
+        index: place.min(1_000) as u32,
+        end: optional_number(element, "end", 0)?,
+        write: optional_flag(element, "write")?,
+        interval: interval_if_any(element, "interval")?,
+        busy: optional_flag(element, "busy")?,
+    })
 }
 
 fn members_of(alloc: Global, elements: &[Value]) -> Option<Vec<IndexFacts>> {
     let mut members = Vec::new(alloc);
     for (place, element) in elements.iter().enumerate() {
-        members.push(facts_of(place, element)).ok()?;
+        members.push(facts_of(place, element)?).ok()?;
     }
     Some(members)
 }

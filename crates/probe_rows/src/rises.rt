@@ -28,10 +28,18 @@ fn merged(earlier: Rising, later: Rising) -> Option<Rising> {
     }
 }
 
-/// The next rise: `merge` makes one of the last two, and a number or null is the rise of one value.
+/// The next rise: `merge` makes one of the last two, a number is the rise of one value, and null that of none.
 fn next_rising(made: &mut Vec<Rising>, step: &Value) -> Option<Rising> {
-    if step.as_str().is_none() {
-        return Some(Rising::none().add(&whole(step)));
+    match step {
+        Value::Null => Some(Rising::none().add(&None)),
+        Value::Number(_) => Some(Rising::none().add(&Some(whole(step)?))),
+        _ => last_merged(made, step),
+    }
+}
+
+fn last_merged(made: &mut Vec<Rising>, step: &Value) -> Option<Rising> {
+    if step.as_str() != Some("merge") {
+        return None;
     }
     let later = made.pop()?;
     merged(made.pop()?, later)

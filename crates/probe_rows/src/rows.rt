@@ -7,7 +7,7 @@ ghost use Rattle.ts_mapping.specs.Schemas.{IsTemplateSchema};
 
 use edge_face::Text;
 use json_walk::read_line;
-use probe_case::{bytes_of, list_or_none};
+use probe_case::{bytes_of, optional_list};
 use row_cells::{Row, Schema};
 use serde_json::Value;
 use series_id::{are_rows_of, series_key};
@@ -96,7 +96,7 @@ fn documents_in(alloc: Global, text: &[u8]) -> Option<Vec<Value>> {
 pub fn document_of(alloc: Global, case: &Value) -> Option<Value> {
     match case.get("lines") {
         Some(lines) => read_line(alloc, bytes_of(alloc, lines)?.as_slice()).ok(),
-        None => list_or_none(case, "documents").first()?.clone().ok(),
+        None => optional_list(case, "documents")?.first()?.clone().ok(),
     }
 }
 
@@ -124,7 +124,7 @@ pub fn rows_at(
 {
     match case.get(lines) {
         Some(lines) => rows_in_lines(alloc, schema, lines),
-        None => rows_of(alloc, schema, list_or_none(case, name)),
+        None => rows_of(alloc, schema, optional_list(case, name)?),
     }
 }
 

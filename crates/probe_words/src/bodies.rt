@@ -1,7 +1,7 @@
 //! Bulk bodies.
 use bulk_json::{BulkError, Item, read_bulk};
 use edge_face::Text;
-use probe_case::Trial;
+use probe_case::{Trial, has};
 use serde_json::Value;
 
 /// Action, stream and source of an item.
@@ -33,7 +33,10 @@ fn put_refusal(kind: &str, line: u64, trial: &mut Trial) {
 
 /// The stream that the path names, if the case has one.
 fn stream_of(case: &Value, trial: &mut Trial) -> Option<Text> {
-    let stream = Text::new(trial.alloc, case.get("stream")?.as_str()?);
+    if !has(case, "stream") {
+        return None;
+    }
+    let stream = Text::new(trial.alloc, trial.word_at(case, "stream"));
     trial.need(stream.is_ok());
     stream.ok()
 }

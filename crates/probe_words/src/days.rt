@@ -35,8 +35,14 @@ fn unit_at(case: &Value, trial: &mut Trial) -> Unit {
         "s" => Unit::S,
         "m" => Unit::M,
         "h" => Unit::H,
-        _ => Unit::D,
+        "d" => Unit::D,
+        _ => no_unit(trial),
     }
+}
+
+fn no_unit(trial: &mut Trial) -> Unit {
+    trial.give_up();
+    Unit::D
 }
 
 /// The interval of a number of units, or null.

@@ -96,12 +96,17 @@ pub fn printed(case: &Value, trial: &mut Trial) {
 }
 
 /// A type of error that replies name.
-fn type_of(name: &str) -> &'static str {
-    match name {
+fn type_at(case: &Value, trial: &mut Trial) -> &'static str {
+    match trial.word_at(case, "type") {
         "index_not_found_exception" => "index_not_found_exception",
         "illegal_argument_exception" => "illegal_argument_exception",
-        _ => "parse_exception",
+        _ => no_type(trial),
     }
+}
+
+fn no_type(trial: &mut Trial) -> &'static str {
+    trial.give_up();
+    ""
 }
 
 fn status_at(case: &Value, trial: &mut Trial) -> u16 {
@@ -117,7 +122,7 @@ fn status_at(case: &Value, trial: &mut Trial) -> u16 {
 /// The text of an error's reply.
 pub fn error(case: &Value, trial: &mut Trial) {
     let status = status_at(case, trial);
-    let kind = type_of(trial.word_at(case, "type"));
+    let kind = type_at(case, trial);
     let reason = trial.text(case, "reason");
     let reply = match Text::new(trial.alloc, reason.as_str()) {
         Ok(reason) => error_reply(trial.alloc, status, kind, reason),

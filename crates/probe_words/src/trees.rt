@@ -2,13 +2,13 @@
 use crate::values::put_texts;
 use edge_face::Text;
 use json_walk::{Leaf, has_names, has_no_other, is_object, leaves_at, only_member, paths};
-use probe_case::{Trial, list_or_none};
+use probe_case::{Trial, optional_list};
 use serde_json::Value;
 use std::alloc::Global;
 
-fn texts_of(alloc: Global, elements: &[Value]) -> Option<Vec<Text>> {
+fn texts_of(alloc: Global, case: &Value, name: &str) -> Option<Vec<Text>> {
     let mut texts = Vec::new(alloc);
-    for element in elements {
+    for element in optional_list(case, name)? {
         texts.push(Text::new(alloc, element.as_str()?).ok()?).ok()?;
     }
     Some(texts)
@@ -16,7 +16,7 @@ fn texts_of(alloc: Global, elements: &[Value]) -> Option<Vec<Text>> {
 
 /// The paths at which a case asks to stop, or none.
 fn stops_of(case: &Value, trial: &mut Trial) -> Vec<Text> {
-    match texts_of(trial.alloc, list_or_none(case, "stops")) {
+    match texts_of(trial.alloc, case, "stops") {
         Some(stops) => stops,
         None => {
             trial.give_up();

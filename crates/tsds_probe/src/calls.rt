@@ -1,4 +1,5 @@
 //! Which crate makes the call of a case.
+use crate::arguments::has_known_arguments;
 use probe_case::Trial;
 use probe_columns::answer_columns;
 use probe_devices::answer_devices;
@@ -13,5 +14,5 @@ pub fn answer(case: &Value, trial: &mut Trial) {
         || answer_rows(call, case, trial)
         || answer_columns(call, case, trial)
         || answer_devices(call, case, trial);
-    trial.need(is_made);
+    trial.need(is_made && has_known_arguments(call, case));
 }
