@@ -10,8 +10,6 @@ top=$PWD
 gate=${GATE_PASSED:-0}
 passed=0
 failed=0
-# Tables whose calls tsds_probe doesn't make yet.
-waiting="index_segment"
 work=$(mktemp -d) || exit 1
 trap 'rm -rf "$work"' EXIT
 mkdir "$work/cases"
@@ -99,12 +97,6 @@ check_tables
 heavy='^{"call":"damaged_segment"|"times":104857[67],'
 for table in tests/cases/*.cases; do
     name=${table##*/}
-    case " $waiting " in
-        *" ${name%.cases} "*)
-            echo "waits: $name, whose calls no proved program makes yet"
-            continue
-            ;;
-    esac
     if is_proved tsds_probe; then
         cp "$table" "$work/cases"
     else

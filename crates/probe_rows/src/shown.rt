@@ -105,7 +105,8 @@ fn put_cell(field: &Field, cell: &Cell, trial: &mut Trial) {
     trial.close("}");
 }
 
-fn put_cells(fields: &[Field], cells: &[Cell], trial: &mut Trial) {
+/// The cells that are present.
+pub fn put_cells(fields: &[Field], cells: &[Cell], trial: &mut Trial) {
     trial.open("{");
     for (field, cell) in fields.iter().zip(cells) {
         put_cell(field, cell, trial);

@@ -4,6 +4,7 @@ use probe_case::Trial;
 use probe_columns::answer_columns;
 use probe_devices::answer_devices;
 use probe_rows::answer_rows;
+use probe_segments::answer_segments;
 use probe_words::answer_words;
 use serde_json::Value;
 
@@ -13,6 +14,7 @@ pub fn answer(case: &Value, trial: &mut Trial) {
     let is_made = answer_words(call, case, trial)
         || answer_rows(call, case, trial)
         || answer_columns(call, case, trial)
-        || answer_devices(call, case, trial);
+        || answer_devices(call, case, trial)
+        || answer_segments(call, case, trial);
     trial.need(is_made && has_known_arguments(call, case));
 }

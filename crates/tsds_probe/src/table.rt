@@ -1,6 +1,6 @@
 //! A table of cases, line by line.
 use crate::calls::answer;
-use json_walk::read_line;
+use json_walk::{has_no_other, read_line};
 use probe_case::{Trial, part};
 use serde_json::Value;
 use std::alloc::Global;
@@ -8,21 +8,21 @@ use std::alloc::Global;
 /// What became of a line.
 #[derive(Clone, Copy)]
 pub enum Verdict {
-    /// It is no case: it is empty, a comment, or names a template for later lines.
+    /// It is no case: it is empty, a comment, or names a template or documents for later lines.
     Nothing,
     /// What came is what was expected.
     Passed,
     Failed,
 }
 
-/// A template that later cases take by its name.
+/// A template, or documents, that later cases take by a name.
 #[derive(Drop)]
 struct Named {
     name: String,
     body: Value,
 }
 
-/// The templates that were named so far.
+/// What was named so far.
 #[derive(Drop)]
 pub struct Table {
     alloc: Global,
@@ -42,6 +42,9 @@ fn is_expected(alloc: Global, answer: &[u8], expected: &[u8]) -> Option<bool> {
 }
 
 fn named_of(alloc: Global, line: &Value) -> Option<Named> {
+    if !has_no_other(line, &["template", "body"]) {
+        return None;
+    }
     let name = String::from_str(alloc, line.get("template")?.as_str()?).ok()?;
     let body = line.get("body")?.clone().ok()?;
     Some(Named { name, body })
@@ -81,7 +84,7 @@ impl Table {
         self.named.push(named).ok()
     }
 
-    /// The template of a name.
+    /// What has a name.
     fn body_of(&self, name: &str) -> Option<Value> {
         for named in &self.named {
             if named.name.as_str() == name {
@@ -91,7 +94,7 @@ impl Table {
         None
     }
 
-    /// Puts the body of a template in the place of its name.
+    /// Puts what has a name in the place of the name.
     fn put_body(&self, case: &mut Value, member: &str) -> Option<()> {
         let Some(Value::String(name)) = case.get(member) else {
             return Some(());
@@ -102,11 +105,12 @@ impl Table {
         Some(())
     }
 
-    /// A case, where the names of templates have become their bodies.
+    /// A case, where what was named stands for its name.
     fn read_case(&self, call: &[u8]) -> Option<Value> {
         let mut case = read_line(self.alloc, call).ok()?;
         self.put_body(&mut case, "template")?;
         self.put_body(&mut case, "other")?;
+        self.put_body(&mut case, "documents")?;
         Some(case)
     }
 

@@ -1,0 +1,12 @@
+//! Calls on segments, made by cases.
+#![tactic(auto)]
+
+mod calls;
+mod looks;
+mod merges;
+mod places;
+mod segments;
+mod series;
+mod sweeps;
+
+pub use calls::answer_segments;
