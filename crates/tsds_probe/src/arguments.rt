@@ -3,320 +3,169 @@ use json_walk::whole;
 use serde_json::{Map, Value};
 
 /// Each call with the names of its arguments.
-const CALLS: [(&str, &[&str]); 87] = [
-    ("acceptor", &["fails", "first", "second", "steady"]),
-    (
-        "are_rows_of",
-        &["documents", "folded", "lines", "other", "template"],
-    ),
-    ("backing_name", &["generation", "now", "stream"]),
-    ("block_min_max_sum", &["bytes"]),
-    ("build_column", &["values"]),
-    ("bytes_order", &["texts"]),
-    ("changed_ids", &["text"]),
-    ("check_interval", &["asked", "had"]),
-    ("clock", &["first", "second"]),
-    (
-        "columns",
-        &["bytes", "documents", "folded", "lines", "rises", "template"],
-    ),
-    ("copy_lists", &["numbers", "ranges"]),
-    ("copy_row", &["documents", "template"]),
-    ("damaged_block", &["values"]),
-    ("damaged_column", &["bytes", "kind", "rows"]),
-    ("damaged_segment", &["bytes", "folded", "rises", "template"]),
-    (
-        "directory",
-        &["bytes", "documents", "folded", "lines", "rises", "template"],
-    ),
-    ("downsample_name", &["by", "origin"]),
-    ("earlier", &["by", "now"]),
-    ("error_reply", &["reason", "status", "type"]),
+const CALLS: [(&str, &str); 87] = [
+    ("acceptor", "fails first second steady"),
+    ("are_rows_of", "documents folded lines other template"),
+    ("backing_name", "generation now stream"),
+    ("block_min_max_sum", "bytes"),
+    ("build_column", "values"),
+    ("bytes_order", "texts"),
+    ("changed_ids", "text"),
+    ("check_interval", "asked had"),
+    ("clock", "first second"),
+    ("columns", "bytes documents folded lines rises template"),
+    ("copy_lists", "numbers ranges"),
+    ("copy_row", "documents template"),
+    ("damaged_block", "values"),
+    ("damaged_column", "bytes kind rows"),
+    ("damaged_segment", "bytes folded rises template"),
+    ("directory", "bytes documents folded lines rises template"),
+    ("downsample_name", "by origin"),
+    ("earlier", "by now"),
+    ("error_reply", "reason status type"),
     (
         "find",
-        &[
-            "bytes",
-            "documents",
-            "folded",
-            "key",
-            "lines",
-            "rises",
-            "template",
-            "times",
-        ],
+        "bytes documents folded key lines rises template times",
     ),
-    (
-        "find_all",
-        &["bytes", "documents", "folded", "lines", "rises", "template"],
-    ),
-    (
-        "fit_cells",
-        &["count", "documents", "first", "folded", "rises", "template"],
-    ),
-    (
-        "fold_all",
-        &["by", "documents", "lines", "template", "then"],
-    ),
-    (
-        "fold_documents",
-        &["by", "documents", "lines", "template", "then"],
-    ),
-    ("fold_series", &["by", "documents", "lines", "template"]),
+    ("find_all", "bytes documents folded lines rises template"),
+    ("fit_cells", "count documents first folded rises template"),
+    ("fold_all", "by documents lines template then"),
+    ("fold_documents", "by documents lines template then"),
+    ("fold_series", "by documents lines template"),
     (
         "gauge",
-        &[
-            "bytes",
-            "documents",
-            "field",
-            "folded",
-            "from",
-            "key",
-            "lines",
-            "rises",
-            "template",
-            "to",
-        ],
+        "bytes documents field folded from key lines rises template to",
     ),
     (
         "gauge_between",
-        &[
-            "bytes",
-            "documents",
-            "field",
-            "folded",
-            "from",
-            "lines",
-            "rises",
-            "template",
-            "to",
-        ],
+        "bytes documents field folded from lines rises template to",
     ),
-    ("has_names", &["line", "names"]),
-    ("head_row", &["documents", "template"]),
-    ("id_text", &["key", "time"]),
-    ("interval_of", &["number", "unit"]),
-    ("is_instant", &["time"]),
-    ("is_key", &["bytes"]),
-    ("keeper", &["fails", "keys", "steady", "steps"]),
-    ("later", &["by", "now"]),
-    ("later_by", &["ms", "now"]),
-    ("leaves_at", &["line", "path", "stops"]),
-    ("link", &["fails", "left", "room", "steps"]),
+    ("has_names", "line names"),
+    ("head_row", "documents template"),
+    ("id_text", "key time"),
+    ("interval_of", "number unit"),
+    ("is_instant", "time"),
+    ("is_key", "bytes"),
+    ("keeper", "fails keys steady steps"),
+    ("later", "by now"),
+    ("later_by", "ms now"),
+    ("leaves_at", "line path stops"),
+    ("link", "fails left room steps"),
     (
         "merge",
-        &[
-            "documents",
-            "first",
-            "first_lines",
-            "lines",
-            "second",
-            "second_lines",
-            "template",
-        ],
+        "documents first first_lines lines second second_lines template",
     ),
-    ("merge_rows", &["documents", "template"]),
-    ("names", &["name"]),
-    ("next_line", &["bytes", "piece", "source_fails", "steady"]),
-    ("number_list", &["numbers"]),
-    ("pack_block", &["values"]),
-    ("paths", &["line", "stops"]),
-    ("pattern_takes", &["name", "pattern"]),
-    ("plan", &["life", "look_ahead", "members", "now"]),
-    ("print", &["steps"]),
-    ("print_day", &["instant"]),
-    ("print_instant", &["instant"]),
-    (
-        "put_all",
-        &["piece", "pieces", "room", "sink_fails", "steady"],
-    ),
-    ("random_blocks", &["sizes"]),
+    ("merge_rows", "documents template"),
+    ("names", "name"),
+    ("next_line", "bytes piece source_fails steady"),
+    ("number_list", "numbers"),
+    ("pack_block", "values"),
+    ("paths", "line stops"),
+    ("pattern_takes", "name pattern"),
+    ("plan", "life look_ahead members now"),
+    ("print", "steps"),
+    ("print_day", "instant"),
+    ("print_instant", "instant"),
+    ("put_all", "piece pieces room sink_fails steady"),
+    ("random_blocks", "sizes"),
     (
         "range",
-        &[
-            "bytes",
-            "documents",
-            "folded",
-            "from",
-            "lines",
-            "rises",
-            "series",
-            "template",
-            "to",
-        ],
+        "bytes documents folded from lines rises series template to",
     ),
-    ("ranges_of_column", &["bytes", "kind", "rows"]),
-    ("ranges_of_rows", &["values"]),
-    ("read_aggregate", &["leaf", "text"]),
-    ("read_bulk", &["body", "stream"]),
-    ("read_column", &["bytes", "kind", "rows"]),
-    ("read_id", &["text"]),
-    ("read_instant", &["text"]),
-    ("read_interval", &["text"]),
-    ("read_moment_expr", &["now", "text"]),
-    ("read_request", &["body", "method", "target"]),
-    ("read_scalar", &["leaf", "text", "type"]),
-    ("read_template", &["body", "text"]),
-    ("read_time", &["document", "line"]),
-    ("rebuild", &["documents", "lenient", "lines", "template"]),
-    ("rising", &["steps"]),
+    ("ranges_of_column", "bytes kind rows"),
+    ("ranges_of_rows", "values"),
+    ("read_aggregate", "leaf text"),
+    ("read_bulk", "body stream"),
+    ("read_column", "bytes kind rows"),
+    ("read_id", "text"),
+    ("read_instant", "text"),
+    ("read_interval", "text"),
+    ("read_moment_expr", "now text"),
+    ("read_request", "body method target"),
+    ("read_scalar", "leaf text type"),
+    ("read_template", "body text"),
+    ("read_time", "document line"),
+    ("rebuild", "documents lenient lines template"),
+    ("rising", "steps"),
     (
         "row_at",
-        &[
-            "bytes",
-            "documents",
-            "folded",
-            "lines",
-            "place",
-            "rises",
-            "template",
-        ],
+        "bytes documents folded lines place rises template",
     ),
     (
         "rows",
-        &[
-            "bytes",
-            "documents",
-            "folded",
-            "from",
-            "lines",
-            "rises",
-            "template",
-            "to",
-        ],
+        "bytes documents folded from lines rises template to",
     ),
     (
         "scan",
-        &[
-            "bytes",
-            "documents",
-            "folded",
-            "from",
-            "key",
-            "lines",
-            "rises",
-            "template",
-            "to",
-        ],
+        "bytes documents folded from key lines rises template to",
     ),
     (
         "segment_bytes",
-        &["bytes", "documents", "folded", "lines", "rises", "template"],
+        "bytes documents folded lines rises template",
     ),
     (
         "segment_fold",
-        &[
-            "by",
-            "bytes",
-            "documents",
-            "folded",
-            "from",
-            "lines",
-            "rises",
-            "series",
-            "template",
-            "to",
-        ],
+        "by bytes documents folded from lines rises series template to",
     ),
-    (
-        "series",
-        &[
-            "bytes",
-            "documents",
-            "folded",
-            "key",
-            "lines",
-            "rises",
-            "template",
-        ],
-    ),
+    ("series", "bytes documents folded key lines rises template"),
     (
         "series_after",
-        &[
-            "bytes",
-            "documents",
-            "folded",
-            "key",
-            "lines",
-            "rises",
-            "template",
-        ],
+        "bytes documents folded key lines rises template",
     ),
-    ("series_key", &["documents", "lines", "template"]),
-    ("shape", &["line", "names"]),
-    ("shard_of", &["key", "shards", "template"]),
-    ("start_of", &["instant", "interval"]),
-    ("texts", &["line"]),
+    ("series_key", "documents lines template"),
+    ("shape", "line names"),
+    ("shard_of", "key shards template"),
+    ("start_of", "instant interval"),
+    ("texts", "line"),
     (
         "times",
-        &[
-            "bytes",
-            "documents",
-            "folded",
-            "from",
-            "lines",
-            "rises",
-            "template",
-            "to",
-        ],
+        "bytes documents folded from lines rises template to",
     ),
-    (
-        "top",
-        &[
-            "piece",
-            "room",
-            "script",
-            "sink_fails",
-            "source_fails",
-            "words",
-        ],
-    ),
-    (
-        "top_with_faults",
-        &["calls", "piece", "room", "script", "step", "words"],
-    ),
-    ("unpack_block", &["bytes"]),
-    ("whole", &["line"]),
-    ("whole_between", &["greatest", "least", "line"]),
-    ("widen", &["documents", "other", "template"]),
+    ("top", "piece room script sink_fails source_fails words"),
+    ("top_with_faults", "calls piece room script step words"),
+    ("unpack_block", "bytes"),
+    ("whole", "line"),
+    ("whole_between", "greatest least line"),
+    ("widen", "documents other template"),
 ];
 
-/// The names of arguments that are true or false wherever they may stand, and of those that are whole numbers.
-const FLAGS: [&str; 4] = ["folded", "lenient", "rises", "steady"];
+/// The names of arguments that are true or false in whatever call they stand, and of those that are whole numbers.
+const FLAGS: &str = "folded lenient rises steady";
 
-const NUMBERS: [&str; 4] = ["calls", "piece", "room", "step"];
+const NUMBERS: &str = "calls piece room step";
 
-fn is_one_of(name: &str, names: &[&str]) -> bool {
-    for other in names {
-        if *other == name {
+/// The names of a call's arguments; of one that there isn't none.
+fn names_of(call: &str) -> &'static str {
+    for (name, names) in CALLS {
+        if name == call {
+            return names;
+        }
+    }
+    ""
+}
+
+fn is_among(name: &str, names: &str) -> bool {
+    for other in names.split(' ') {
+        if other == name {
             return true;
         }
     }
     false
 }
 
-/// The names of a call's arguments; of one that there isn't none.
-fn names_of(call: &str) -> &'static [&'static str] {
-    for (name, names) in CALLS {
-        if name == call {
-            return names;
-        }
-    }
-    &[]
-}
-
 /// Whether an argument has the kind that its name says.
 fn is_of_kind(name: &str, argument: &Value) -> bool {
-    if is_one_of(name, &FLAGS) {
+    if is_among(name, FLAGS) {
         argument.as_bool().is_some()
     } else {
-        whole(argument).is_some() || !is_one_of(name, &NUMBERS)
+        whole(argument).is_some() || !is_among(name, NUMBERS)
     }
 }
 
-fn are_known(arguments: &Map<String, Value>, names: &[&str]) -> bool {
+fn are_known(arguments: &Map<String, Value>, names: &str) -> bool {
     for (name, argument) in arguments.iter() {
         let name = name.as_str();
-        let is_known = name == "call" || is_one_of(name, names);
+        let is_known = name == "call" || is_among(name, names);
         if !is_known || !is_of_kind(name, argument) {
             return false;
         }
