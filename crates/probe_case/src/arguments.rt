@@ -143,6 +143,22 @@ impl Trial {
         }
     }
 
+    /// A text that stands in the case as it is, if it has one.
+    pub fn optional_word<'a>(&mut self, case: &'a Value, name: &str) -> Option<&'a str> {
+        match case.get(name) {
+            Some(member) => Some(self.word_of(member)),
+            None => None,
+        }
+    }
+
+    /// A whole number, or another one where the case has none.
+    pub fn number_or(&mut self, case: &Value, name: &str, otherwise: i64) -> i64 {
+        match case.get(name) {
+            Some(member) => self.whole_of(member),
+            None => otherwise,
+        }
+    }
+
     /// Whole numbers of a list that the case may have.
     pub fn counts(&mut self, case: &Value, name: &str) -> Vec<u64> {
         match counts_of(self.alloc, case, name) {

@@ -1,5 +1,11 @@
 //! Packed blocks of whole numbers.
-use column_pack::{Summary, block_len, block_min_max_sum, pack_block, unpack_block};
+ghost use Rattle.std.specs.Prelude.{ℤ, List};
+ghost use Rattle.column_pack.specs.Known.{BeginsWith};
+
+use column_pack::{
+    Summary, block_len, block_min_max_sum, first_known, pack_block, summary_known, unpack_block,
+    unpack_known,
+};
 use probe_case::Trial;
 use serde_json::Value;
 use std::alloc::Global;
@@ -37,15 +43,26 @@ fn is_summed(block: &[u8], values: &[i64]) -> bool {
     }
 }
 
+/// Whether the calls on bytes that are known to begin with a block tell these values.
+fn is_known(block: &[u8], values: &[i64]) -> bool
+    requires { (vs : List ℤ) × BeginsWith vs block.now }
+{
+    let mut back = [0i64; 128];
+    unpack_known(block, &mut back) == values.len()
+        && back.starts_with(values)
+        && values.first() == Some(&first_known(block))
+        && sums_up(&summary_known(block), values)
+}
+
 fn is_unpacked(block: &[u8], values: &[i64]) -> bool {
     let mut back = [0i64; 128];
     match unpack_block(block, &mut back) {
-        Ok(n) => n == values.len() && back.starts_with(values),
+        Ok(n) => n == values.len() && back.starts_with(values) && is_known(block, values),
         Err(_) => false,
     }
 }
 
-/// Whether a block gives these values, its own length, and their number, least, greatest and sum.
+/// Whether a block gives these values, its own length, and their number, least, greatest and sum, also where it is known to be one.
 pub fn gives(block: &[u8], values: &[i64]) -> bool {
     is_unpacked(block, values) && is_summed(block, values) && block_len(block) == Some(block.len())
 }

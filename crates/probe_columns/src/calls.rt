@@ -1,5 +1,5 @@
 //! Which function makes the call of a case.
-use crate::{blocks, columns, lists, ranges, sweeps};
+use crate::{blocks, columns, lists, ranges, sweeps, turns};
 use probe_case::Trial;
 use serde_json::Value;
 
@@ -24,6 +24,7 @@ fn of_columns(call: &str, case: &Value, trial: &mut Trial) -> Option<bool> {
         "ranges_of_column" => ranges::of_column(case, trial)?,
         "number_list" => lists::number_list(case, trial)?,
         "copy_lists" => lists::copy(case, trial)?,
+        "merge_lists" => turns::merge(case, trial)?,
         _ => return Some(false),
     }
     Some(true)

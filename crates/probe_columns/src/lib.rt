@@ -7,5 +7,6 @@ mod columns;
 mod lists;
 mod ranges;
 mod sweeps;
+mod turns;
 
 pub use calls::answer_columns;

@@ -87,18 +87,23 @@ fn copied(alloc: Global, list: &NumberList, ranges: &[Value]) -> Option<NumberLi
     packer.finish().ok()
 }
 
+/// The sum of a list and its numbers.
+pub fn put_list(list: &NumberList, trial: &mut Trial) -> Option<()> {
+    let values = list.values(trial.alloc, 0, list.len()).ok()?;
+    trial.ok();
+    trial.open("{");
+    trial.name("sum");
+    trial.wide(list.sum());
+    trial.name("numbers");
+    put_numbers(values.as_slice(), trial);
+    trial.close("}}");
+    Some(())
+}
+
 /// Ranges of a list, copied one behind another into a list: its sum and its numbers.
 pub fn copy(case: &Value, trial: &mut Trial) -> Option<()> {
     let numbers = trial.numbers(case, "numbers");
     let list = NumberList::build(trial.alloc, numbers.as_slice()).ok()?;
     let copied = copied(trial.alloc, &list, trial.list(case, "ranges"))?;
-    let values = copied.values(trial.alloc, 0, copied.len()).ok()?;
-    trial.ok();
-    trial.open("{");
-    trial.name("sum");
-    trial.wide(copied.sum());
-    trial.name("numbers");
-    put_numbers(values.as_slice(), trial);
-    trial.close("}}");
-    Some(())
+    put_list(&copied, trial)
 }

@@ -1,5 +1,7 @@
 //! Which function makes the call of a case.
-use crate::{cells, documents, folds, keys, lifecycles, merging, rises, templates, widening};
+use crate::{
+    cells, checks, documents, folds, keys, lifecycles, merging, rises, templates, widening,
+};
 use probe_case::Trial;
 use serde_json::Value;
 
@@ -8,8 +10,11 @@ fn of_templates(call: &str, case: &Value, trial: &mut Trial) -> Option<bool> {
         "read_template" => templates::read(case, trial)?,
         "read_scalar" => templates::scalar(case, trial)?,
         "read_aggregate" => templates::aggregate(case, trial),
+        "is_template" => checks::kept(case, trial)?,
+        "first_other" => checks::other(case, trial)?,
         "rebuild" => documents::round(case, trial)?,
         "read_time" => documents::time(case, trial)?,
+        "type_cells" => documents::cells(case, trial)?,
         _ => return Some(false),
     }
     Some(true)
@@ -35,6 +40,7 @@ fn of_rows(call: &str, case: &Value, trial: &mut Trial) -> Option<bool> {
         "head_row" => cells::head(case, trial)?,
         "are_rows_of" => cells::are_rows(case, trial)?,
         "bytes_order" => cells::orders(case, trial)?,
+        "row_order" => cells::row_orders(case, trial)?,
         "merge_rows" => merging::merge(case, trial)?,
         "widen" => widening::widened(case, trial)?,
         _ => return Some(false),

@@ -1,9 +1,12 @@
 //! Cells of rows, and what rows may stand in an index.
-use crate::rows::{case_rows, row_of, schema_at};
+use crate::rows::{all_rows, case_rows, row_of, schema_at};
 use crate::shown::ok_row;
 use edge_face::bytes_order;
 use probe_case::{Trial, is_set, optional_number, part};
-use row_cells::{Cell, MOST_DOCUMENTS, Schema, copy_row, fit_cells, head_row};
+use row_cells::{
+    Cell, MOST_DOCUMENTS, Row, Schema, are_few, are_in_row_order, copy_row, fit_cells, head_row,
+    row_order,
+};
 use serde_json::Value;
 use series_id::are_rows_of;
 use std::alloc::Global;
@@ -69,6 +72,36 @@ pub fn orders(case: &Value, trial: &mut Trial) -> Option<()> {
     }
     trial.close("]}");
     Some(())
+}
+
+/// A sign for each row, of how a row stands to it.
+fn row_signs_of(alloc: Global, left: &Row, rows: &[Row]) -> Option<String> {
+    let mut signs = String::new(alloc);
+    for right in rows {
+        signs.push_str(sign_of(row_order(left, right))).ok()?;
+    }
+    Some(signs)
+}
+
+fn put_row_orders(rows: &[Row], trial: &mut Trial) -> Option<()> {
+    trial.ok();
+    trial.open("{");
+    trial.flag_at("in_order", are_in_row_order(rows));
+    trial.flag_at("few", are_few(rows));
+    trial.name("signs");
+    trial.open("[");
+    for left in rows {
+        trial.word(row_signs_of(trial.alloc, left, rows)?.as_str());
+    }
+    trial.close("]}}");
+    Some(())
+}
+
+/// How each row of documents stands to each, and whether all stand in row order and are few.
+pub fn row_orders(case: &Value, trial: &mut Trial) -> Option<()> {
+    let schema = schema_at(trial.alloc, case, "template")?;
+    let rows = all_rows(trial.alloc, &schema, trial.list(case, "documents"))?;
+    put_row_orders(rows.as_slice(), trial)
 }
 
 fn put_fit(case: &Value, schema: &Schema, cells: &[Cell], trial: &mut Trial) -> Option<()> {

@@ -1,18 +1,21 @@
 //! Documents: typed, and rebuilt from their rows.
-ghost use Rattle.std.specs.Prelude.{◌≡◌, false};
+ghost use Rattle.std.specs.Prelude.{◌≡◌, IsSome, false};
 ghost use Rattle.row_cells.specs.Fitting.{CellsFit, Fits};
+ghost use Rattle.serde_json.specs.View.{view};
+ghost use Rattle.synthetic_source.specs.Faults.{time_of};
 ghost use Rattle.time_text.specs.Instant.{IsInstant};
 ghost use Rattle.ts_mapping.specs.Schemas.{IsTemplateSchema};
 
 use crate::rows::{document_of, keyed_row, schema_at};
+use crate::shown::put_cells;
 use crate::templates::put_refusal;
 use json_walk::read_line;
 use probe_case::{Trial, is_set};
 use reply_json::Out;
-use row_cells::{Row, Schema};
+use row_cells::{Cell, Row, Schema};
 use serde_json::Value;
 use std::alloc::Global;
-use synthetic_source::{DocError, Typed, rebuild, rebuild_value, type_doc};
+use synthetic_source::{DocError, Typed, rebuild, rebuild_value, type_cells, type_doc};
 
 /// The text of a tree, if it is that of a document whose members ascend.
 pub fn ascending_text(alloc: Global, out: &Out) -> Option<Vec<u8>> {
@@ -80,6 +83,33 @@ pub fn round(case: &Value, trial: &mut Trial) -> Option<()> {
         Ok(typed) => put_rebuilt(&schema, typed, trial),
         Err(error) => put_refused(error, trial),
     }
+}
+
+/// The cells of a document that has a time, or why it is refused.
+pub fn cells(case: &Value, trial: &mut Trial) -> Option<()> {
+    let schema = schema_at(trial.alloc, case, "template")?;
+    let document = document_of(trial.alloc, case)?;
+    match synthetic_source::read_time(trial.alloc, &document) {
+        Ok(_) => put_typed(&schema, &document, case, trial),
+        Err(error) => put_refused(error, trial),
+    }
+}
+
+fn put_typed(schema: &Schema, document: &Value, case: &Value, trial: &mut Trial) -> Option<()>
+    requires schema { IsTemplateSchema schema.now }
+    requires timed { IsSome (time_of (view document.now)) }
+{
+    match type_cells(trial.alloc, schema, !is_set(case, "lenient"), document) {
+        Ok(cells) => ok_cells(schema, cells.as_slice(), trial),
+        Err(error) => put_refused(error, trial)?,
+    }
+    Some(())
+}
+
+fn ok_cells(schema: &Schema, cells: &[Cell], trial: &mut Trial) {
+    trial.ok();
+    put_cells(schema.fields.as_slice(), cells, trial);
+    trial.close("}");
 }
 
 /// The time of a document, or why it has none.

@@ -3,6 +3,7 @@
 
 mod calls;
 mod cells;
+mod checks;
 mod documents;
 mod fields;
 mod folds;

@@ -57,7 +57,8 @@ pub fn row_of(alloc: Global, schema: &Schema, document: &Value) -> Option<Row>
     }
 }
 
-fn all_rows(alloc: Global, schema: &Schema, documents: &[Value]) -> Option<Vec<Row>>
+/// The rows of documents, in whatever order they come.
+pub fn all_rows(alloc: Global, schema: &Schema, documents: &[Value]) -> Option<Vec<Row>>
     requires schema { IsTemplateSchema schema.now }
     requires raw { schema.now.folded ≡ false }
 {

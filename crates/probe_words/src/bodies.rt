@@ -1,7 +1,7 @@
 //! Bulk bodies.
-use bulk_json::{BulkError, Item, read_bulk};
+use bulk_json::{BulkError, BulkLines, Item, read_bulk};
 use edge_face::Text;
-use probe_case::{Trial, has};
+use probe_case::Trial;
 use serde_json::Value;
 
 /// Action, stream and source of an item.
@@ -31,12 +31,18 @@ fn put_refusal(kind: &str, line: u64, trial: &mut Trial) {
     trial.close("}");
 }
 
+fn put_fault(error: BulkError, trial: &mut Trial) {
+    match error {
+        BulkError::BadAction { line } => put_refusal("BadAction", line, trial),
+        BulkError::MissingSource { line } => put_refusal("MissingSource", line, trial),
+        BulkError::Empty => trial.refused("Empty"),
+        BulkError::NoMemory => trial.give_up(),
+    }
+}
+
 /// The stream that the path names, if the case has one.
 fn stream_of(case: &Value, trial: &mut Trial) -> Option<Text> {
-    if !has(case, "stream") {
-        return None;
-    }
-    let stream = Text::new(trial.alloc, trial.word_at(case, "stream"));
+    let stream = Text::new(trial.alloc, trial.optional_word(case, "stream")?);
     trial.need(stream.is_ok());
     stream.ok()
 }
@@ -47,9 +53,17 @@ pub fn bulk(case: &Value, trial: &mut Trial) {
     let body = trial.bytes(case, "body");
     match read_bulk(trial.alloc, stream.as_ref(), body.as_slice()) {
         Ok(items) => put_items(items.as_slice(), trial),
-        Err(BulkError::BadAction { line }) => put_refusal("BadAction", line, trial),
-        Err(BulkError::MissingSource { line }) => put_refusal("MissingSource", line, trial),
-        Err(BulkError::Empty) => trial.refused("Empty"),
-        Err(BulkError::NoMemory) => trial.give_up(),
+        Err(error) => put_fault(error, trial),
+    }
+}
+
+/// The fault that is ahead of a bulk body's lines, or null.
+pub fn ahead(case: &Value, trial: &mut Trial) {
+    let stream = trial.optional_word(case, "stream");
+    let body = trial.bytes(case, "body");
+    match BulkLines::new(stream, body.as_slice()).fault_ahead(trial.alloc) {
+        Ok(Some(error)) => put_fault(error, trial),
+        Ok(None) => trial.ok_null(),
+        Err(_) => trial.give_up(),
     }
 }

@@ -54,10 +54,12 @@ fn of_values(call: &str, case: &Value, trial: &mut Trial) -> bool {
 fn of_messages(call: &str, case: &Value, trial: &mut Trial) -> bool {
     match call {
         "read_bulk" => bodies::bulk(case, trial),
+        "fault_ahead" => bodies::ahead(case, trial),
         "read_request" => requests::request(case, trial),
         "names" => names::kinds(case, trial),
         "pattern_takes" => names::takes(case, trial),
         "backing_name" => names::backing(case, trial),
+        "read_backing_name" => names::read_backing(case, trial),
         "downsample_name" => names::downsample(case, trial),
         _ => return false,
     }

@@ -5,8 +5,9 @@ ghost use Rattle.index_names.specs.Backing.{greatest_generation};
 use crate::times::{instant_at, interval_at};
 use edge_face::{NoMemory, Text};
 use index_names::{
-    GREATEST_GENERATION, backing_name, downsample_name, is_index_name, is_pattern, is_reserved,
-    is_stream_name, is_target_name, pattern_takes,
+    BackingName, GREATEST_GENERATION, backing_name, downsample_name, is_backing_name,
+    is_index_name, is_pattern, is_reserved, is_stream_name, is_target_name, pattern_takes,
+    read_backing_name,
 };
 use probe_case::Trial;
 use serde_json::Value;
@@ -59,6 +60,29 @@ pub fn backing(case: &Value, trial: &mut Trial) {
     let generation = generation_at(case, trial);
     let stream = trial.word_at(case, "stream");
     put_made(backing_name(trial.alloc, stream, now, generation), trial);
+}
+
+fn put_backing(name: &BackingName, trial: &mut Trial) {
+    trial.ok();
+    trial.open("{");
+    trial.name("stream");
+    trial.word(name.stream);
+    trial.name("day");
+    trial.whole(name.day);
+    trial.name("generation");
+    trial.whole(i64::from(name.generation));
+    trial.close("}}");
+}
+
+/// The stream, the day and the generation of a backing index's name, or null.
+pub fn read_backing(case: &Value, trial: &mut Trial) {
+    let name = trial.bytes(case, "name");
+    let read = read_backing_name(name.as_slice());
+    trial.need(is_backing_name(name.as_slice()) == read.is_some());
+    match read {
+        Some(read) => put_backing(&read, trial),
+        None => trial.ok_null(),
+    }
 }
 
 pub fn downsample(case: &Value, trial: &mut Trial) {

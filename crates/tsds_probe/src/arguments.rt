@@ -3,7 +3,7 @@ use json_walk::whole;
 use serde_json::{Map, Value};
 
 /// Each call with the names of its arguments.
-const CALLS: [(&str, &str); 87] = [
+const CALLS: [(&str, &str); 94] = [
     ("acceptor", "fails first second steady"),
     ("are_rows_of", "documents folded lines other template"),
     ("backing_name", "generation now stream"),
@@ -23,11 +23,13 @@ const CALLS: [(&str, &str); 87] = [
     ("downsample_name", "by origin"),
     ("earlier", "by now"),
     ("error_reply", "reason status type"),
+    ("fault_ahead", "body stream"),
     (
         "find",
         "bytes documents folded key lines rises template times",
     ),
     ("find_all", "bytes documents folded lines rises template"),
+    ("first_other", "other template"),
     ("fit_cells", "count documents first folded rises template"),
     ("fold_all", "by documents lines template then"),
     ("fold_documents", "by documents lines template then"),
@@ -46,6 +48,10 @@ const CALLS: [(&str, &str); 87] = [
     ("interval_of", "number unit"),
     ("is_instant", "time"),
     ("is_key", "bytes"),
+    (
+        "is_template",
+        "folded look_ahead look_back priority rises shards template",
+    ),
     ("keeper", "fails keys steady steps"),
     ("later", "by now"),
     ("later_by", "ms now"),
@@ -55,6 +61,7 @@ const CALLS: [(&str, &str); 87] = [
         "merge",
         "documents first first_lines lines second second_lines template",
     ),
+    ("merge_lists", "lists turns"),
     ("merge_rows", "documents template"),
     ("names", "name"),
     ("next_line", "bytes piece source_fails steady"),
@@ -75,6 +82,7 @@ const CALLS: [(&str, &str); 87] = [
     ("ranges_of_column", "bytes kind rows"),
     ("ranges_of_rows", "values"),
     ("read_aggregate", "leaf text"),
+    ("read_backing_name", "name"),
     ("read_bulk", "body stream"),
     ("read_column", "bytes kind rows"),
     ("read_id", "text"),
@@ -91,6 +99,7 @@ const CALLS: [(&str, &str); 87] = [
         "row_at",
         "bytes documents folded lines place rises template",
     ),
+    ("row_order", "documents template"),
     (
         "rows",
         "bytes documents folded from lines rises template to",
@@ -123,6 +132,7 @@ const CALLS: [(&str, &str); 87] = [
     ),
     ("top", "piece room script sink_fails source_fails words"),
     ("top_with_faults", "calls piece room script step words"),
+    ("type_cells", "documents lenient lines template"),
     ("unpack_block", "bytes"),
     ("whole", "line"),
     ("whole_between", "greatest least line"),
