@@ -3,7 +3,7 @@ use json_walk::whole;
 use serde_json::{Map, Value};
 
 /// Each call with the names of its arguments.
-const CALLS: [(&str, &str); 94] = [
+const CALLS: [(&str, &str); 93] = [
     ("acceptor", "fails first second steady"),
     ("are_rows_of", "documents folded lines other template"),
     ("backing_name", "generation now stream"),
@@ -33,7 +33,6 @@ const CALLS: [(&str, &str); 94] = [
     ("fit_cells", "count documents first folded rises template"),
     ("fold_all", "by documents lines template then"),
     ("fold_documents", "by documents lines template then"),
-    ("fold_series", "by documents lines template"),
     (
         "gauge",
         "bytes documents field folded from key lines rises template to",
