@@ -19,5 +19,5 @@ mod widening;
 pub use calls::answer_rows;
 pub use folds::interval_at;
 pub use keys::key_at;
-pub use rows::{case_rows, rows_at, schema_at};
-pub use shown::{ok_rows, put_cells, put_parts, put_row};
+pub use rows::{all_rows, case_rows, rows_at, schema_at};
+pub use shown::{ok_rows, put_cells, put_parts, put_row, put_scalar};

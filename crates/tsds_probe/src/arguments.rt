@@ -3,7 +3,7 @@ use json_walk::whole;
 use serde_json::{Map, Value};
 
 /// Each call with the names of its arguments.
-const CALLS: [(&str, &str); 93] = [
+const CALLS: [(&str, &str); 97] = [
     ("acceptor", "fails first second steady"),
     ("are_rows_of", "documents folded lines other template"),
     ("backing_name", "generation now stream"),
@@ -56,16 +56,19 @@ const CALLS: [(&str, &str); 93] = [
     ("later_by", "ms now"),
     ("leaves_at", "line path stops"),
     ("link", "fails left room steps"),
+    ("matches", "documents now query template"),
     (
         "merge",
         "documents first first_lines lines second second_lines template",
     ),
     ("merge_lists", "lists turns"),
     ("merge_rows", "documents template"),
+    ("metric_out", "gauge kind"),
     ("names", "name"),
     ("next_line", "bytes piece source_fails steady"),
     ("number_list", "numbers"),
     ("pack_block", "values"),
+    ("page", "documents from size sort template"),
     ("paths", "line stops"),
     ("pattern_takes", "name pattern"),
     ("plan", "life look_ahead members now"),
@@ -81,6 +84,7 @@ const CALLS: [(&str, &str); 93] = [
     ("ranges_of_column", "bytes kind rows"),
     ("ranges_of_rows", "values"),
     ("read_aggregate", "leaf text"),
+    ("read_aggs", "aggs template"),
     ("read_backing_name", "name"),
     ("read_bulk", "body stream"),
     ("read_column", "bytes kind rows"),

@@ -3,6 +3,7 @@ use crate::arguments::has_known_arguments;
 use probe_case::Trial;
 use probe_columns::answer_columns;
 use probe_devices::answer_devices;
+use probe_questions::answer_questions;
 use probe_rows::answer_rows;
 use probe_segments::answer_segments;
 use probe_words::answer_words;
@@ -15,6 +16,7 @@ pub fn answer(case: &Value, trial: &mut Trial) {
         || answer_rows(call, case, trial)
         || answer_columns(call, case, trial)
         || answer_devices(call, case, trial)
+        || answer_questions(call, case, trial)
         || answer_segments(call, case, trial);
     trial.need(is_made && has_known_arguments(call, case));
 }

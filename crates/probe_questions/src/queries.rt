@@ -1,0 +1,56 @@
+//! Queries, and the rows that they take.
+ghost use Rattle.std.specs.Prelude.{IfSome};
+ghost use Rattle.time_text.specs.Instant.{IsInstant};
+
+use probe_case::Trial;
+use probe_rows::{all_rows, schema_at};
+use row_cells::{Row, Schema};
+use search_filter::{Query, QueryError, matches, read_query};
+use serde_json::Value;
+use time_text::is_instant;
+
+/// The present moment of a case, 0 unless it says otherwise.
+fn now_of(case: &Value, trial: &mut Trial) -> Option<i64>
+    ensures { IfSome result IsInstant }
+{
+    let now = trial.number_or(case, "now", 0);
+    if is_instant(now) { Some(now) } else { None }
+}
+
+fn put_matches(query: &Query, schema: &Schema, rows: &[Row], trial: &mut Trial) {
+    trial.ok();
+    trial.open("[");
+    for row in rows {
+        trial.flag(matches(query, schema, row));
+    }
+    trial.close("]}");
+}
+
+fn put_error(error: QueryError, trial: &mut Trial) {
+    match error {
+        QueryError::Shape => trial.refused("Shape"),
+        QueryError::WrongValue { path } => {
+            trial.err("WrongValue");
+            trial.name("path");
+            trial.word(path.as_str());
+            trial.close("}");
+        }
+        QueryError::NoMemory => trial.give_up(),
+    }
+}
+
+fn ask(schema: &Schema, rows: &[Row], case: &Value, trial: &mut Trial) -> Option<()> {
+    let now = now_of(case, trial)?;
+    match read_query(trial.alloc, case.get("query")?, schema, now) {
+        Ok(query) => put_matches(&query, schema, rows, trial),
+        Err(error) => put_error(error, trial),
+    }
+    Some(())
+}
+
+/// Whether the row of each document matches a query, or why there is no such query.
+pub fn matching(case: &Value, trial: &mut Trial) -> Option<()> {
+    let schema = schema_at(trial.alloc, case, "template")?;
+    let rows = all_rows(trial.alloc, &schema, trial.list(case, "documents"))?;
+    ask(&schema, rows.as_slice(), case, trial)
+}
