@@ -3,7 +3,7 @@ use json_walk::whole;
 use serde_json::{Map, Value};
 
 /// Each call with the names of its arguments.
-const CALLS: [(&str, &str); 97] = [
+const CALLS: [(&str, &str); 98] = [
     ("acceptor", "fails first second steady"),
     ("are_rows_of", "documents folded lines other template"),
     ("backing_name", "generation now stream"),
@@ -106,6 +106,10 @@ const CALLS: [(&str, &str); 97] = [
     (
         "rows",
         "bytes documents folded from lines rises template to",
+    ),
+    (
+        "run_recorded",
+        "keeper_fails keeper_lacks piece room script sink_fails source_fails",
     ),
     (
         "scan",
