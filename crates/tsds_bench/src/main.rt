@@ -7,6 +7,7 @@ mod bulks;
 mod columns;
 mod documents;
 mod fold_rows;
+mod hostile;
 mod samples;
 mod segments;
 mod templates;
@@ -40,6 +41,7 @@ fn sum_of(alloc: Global, case: &str, size: u64) -> Result<u64> {
         "template" => templates::run(alloc, rest.parse()?, size),
         "documents" => documents::run(alloc, rest, size),
         "bulk" => bulks::run(alloc, rest, size),
+        "hostile" => hostile::run(alloc, rest, size),
         "segment" => segments::run(alloc, rest, size),
         _ => packed(alloc, case, size),
     }
