@@ -1,4 +1,6 @@
 //! Pages of the rows of documents.
+ghost use Rattle.std.specs.Prelude.{◌≤◌};
+
 use hits_page::{Page, PageError, Pager, Picked, SortKey, read_sort};
 use probe_case::Trial;
 use probe_rows::{all_rows, put_scalar, schema_at};
@@ -76,7 +78,9 @@ fn put_offered(pager: Pager, schema: &Schema, rows: &[Row], trial: &mut Trial) {
 }
 
 /// A number from 0 to 2^32.
-fn bound(number: i64) -> u64 {
+fn bound(number: i64) -> u64
+    ensures { result ≤ 4_294_967_296 }
+{
     number.unsigned_abs().min(4_294_967_296)
 }
 
