@@ -1,8 +1,8 @@
 //! Segments as one.
 ghost use Rattle.std.specs.Prelude.{◌≡◌, false, IsTrue};
-ghost use Rattle.index_segment.specs.Merging.{AreApart};
 ghost use Rattle.probe_segments.specs.Apart.{IsApart, IsApartFromAll};
 ghost use Rattle.row_cells.specs.KeyedRows.{AreRowsOf};
+ghost use Rattle.row_cells.specs.RowLists.{AreApart};
 ghost use Rattle.ts_mapping.specs.Schemas.{IsTemplateSchema};
 
 use crate::segments::{built, spelled_documents};
@@ -10,15 +10,20 @@ use edge_face::Bytes;
 use index_segment::Segment;
 use probe_case::Trial;
 use probe_rows::{rows_at, schema_at};
-use row_cells::{MOST_DOCUMENTS, Row, Schema};
+use row_cells::{MOST_DOCUMENTS, Row, Schema, row_order};
 use serde_json::Value;
 use std::alloc::Global;
+use std::cmp::Ordering;
 
 /// Whether two rows aren't of one series and time.
 fn is_apart(row: &Row, other: &Row) -> bool
     ensures { IsTrue result → IsApart row.now other.now }
 {
-    row.key != other.key || row.time != other.time
+    match row_order(row, other) {
+        Ordering::Equal => false,
+        Ordering::Less => true,
+        Ordering::Greater => true,
+    }
 }
 
 fn is_apart_from_all(row: &Row, others: &[Row]) -> bool
@@ -49,8 +54,9 @@ fn merged(alloc: Global, first: &Segment, second: &Segment) -> Option<Bytes>
     requires schema { second.now.schema ≡ first.now.schema }
     requires apart { AreApart first.now.rows second.now.rows }
 {
-    if first.documents() + second.documents() > MOST_DOCUMENTS {
-        return None;
+    match first.documents().checked_add(second.documents()) {
+        Some(all) if all <= MOST_DOCUMENTS => {}
+        _ => return None,
     }
     match first.merge(alloc, second) {
         Ok(segment) => segment.bytes(alloc).ok(),

@@ -102,6 +102,20 @@ fn generated(alloc: Global) -> Result<Vec<u8>> {
     Ok(body)
 }
 
+/// The time of the row of a document, or 0 where it gives none.
+fn time_of(alloc: Global, schema: &Schema, source: &[u8]) -> u64
+    requires template { IsTemplateSchema schema.now }
+    requires raw { schema.now.folded ≡ false }
+{
+    let Ok(document) = read_line(alloc, source) else {
+        return 0;
+    };
+    match row_of(alloc, schema, &document) {
+        Ok(row) => row.time.cast_unsigned(),
+        Err(_) => 0,
+    }
+}
+
 /// A sum over the rows of a body.
 fn rows_of(alloc: Global, schema: &Schema, body: &[u8]) -> Result<u64>
     requires template { IsTemplateSchema schema.now }
@@ -111,9 +125,7 @@ fn rows_of(alloc: Global, schema: &Schema, body: &[u8]) -> Result<u64>
     let mut lines = BulkLines::new(Some("metrics"), body);
     while let Some(NextItem { item, ahead }) = lines.next(alloc)? {
         if let Some(source) = item.source {
-            let document = read_line(alloc, source)?;
-            let row = row_of(alloc, schema, &document)?;
-            sum = sum.wrapping_add(row.time.cast_unsigned());
+            sum = sum.wrapping_add(time_of(alloc, schema, source));
         }
         lines = ahead;
     }
