@@ -1,17 +1,10 @@
 //! Bulk requests of a thousand items, SIZE items in all: `bulk-path` reads the lines of bodies whose stream is the path's,
-//! `bulk-named` of those that name it, and `bulk-rows` makes a row of each document of bodies of the generated form;
-//! `bulk-built` builds the trees of replies to items that were created, and `bulk-printed` prints them too.
-ghost use Rattle.std.specs.Prelude.{◌≡◌, false};
-ghost use Rattle.ts_mapping.specs.Schemas.{IsTemplateSchema};
-
-use crate::samples::{SERIES, schema_of, text_of};
+//! `bulk-named` of those that name it; `bulk-built` builds the trees of replies to items that were created, and `bulk-printed`
+//! prints them too.
 use anyhow::{Result, bail};
 use bulk_json::{BulkLines, NextItem};
 use edge_face::NoMemory;
-use json_walk::read_line;
 use reply_json::{Members, Out, print};
-use row_cells::Schema;
-use sample_rows::row_of;
 use std::alloc::Global;
 
 const INDEX: &str = ".ds-metrics-host-cpu-2024.01.01-000001";
@@ -90,59 +83,6 @@ fn read(alloc: Global, action: &str, path: Option<&str>, size: u64) -> Result<u6
     Ok(sum)
 }
 
-/// A body of the documents of the first turns of all series, each behind its action line.
-fn generated(alloc: Global) -> Result<Vec<u8>> {
-    let mut body = Vec::new(alloc);
-    for place in 0..TURN as u32 {
-        body.extend_from_slice(b"{\"create\":{}}\n")?;
-        let text = text_of(alloc, place % SERIES, place / SERIES)?;
-        body.extend_from_slice(text.as_bytes())?;
-        body.push(b'\n')?;
-    }
-    Ok(body)
-}
-
-/// The time of the row of a document, or 0 where it gives none.
-fn time_of(alloc: Global, schema: &Schema, source: &[u8]) -> u64
-    requires template { IsTemplateSchema schema.now }
-    requires raw { schema.now.folded ≡ false }
-{
-    let Ok(document) = read_line(alloc, source) else {
-        return 0;
-    };
-    match row_of(alloc, schema, &document) {
-        Ok(row) => row.time.cast_unsigned(),
-        Err(_) => 0,
-    }
-}
-
-/// A sum over the rows of a body.
-fn rows_of(alloc: Global, schema: &Schema, body: &[u8]) -> Result<u64>
-    requires template { IsTemplateSchema schema.now }
-    requires raw { schema.now.folded ≡ false }
-{
-    let mut sum = 0u64;
-    let mut lines = BulkLines::new(Some("metrics"), body);
-    while let Some(NextItem { item, ahead }) = lines.next(alloc)? {
-        if let Some(source) = item.source {
-            sum = sum.wrapping_add(time_of(alloc, schema, source));
-        }
-        lines = ahead;
-    }
-    Ok(sum)
-}
-
-/// The rows of one body, over and over.
-fn rows(alloc: Global, size: u64) -> Result<u64> {
-    let schema = schema_of(alloc)?;
-    let body = generated(alloc)?;
-    let mut sum = 0u64;
-    for _ in 0..size / TURN as u64 {
-        sum = sum.wrapping_add(rows_of(alloc, &schema, body.as_slice())?);
-    }
-    Ok(sum)
-}
-
 fn replied(alloc: Global, is_printed: bool, size: u64) -> Result<u64> {
     let mut buffer = Vec::new(alloc);
     let mut sum = 0u64;
@@ -156,7 +96,6 @@ pub fn run(alloc: Global, case: &str, size: u64) -> Result<u64> {
     match case {
         "path" => read(alloc, "{\"create\":{}}\n", Some("metrics"), size),
         "named" => read(alloc, "{\"create\":{\"_index\":\"metrics\"}}\n", None, size),
-        "rows" => rows(alloc, size),
         "built" => replied(alloc, false, size),
         "printed" => replied(alloc, true, size),
         _ => bail!("no such case"),
