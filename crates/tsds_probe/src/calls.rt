@@ -1,5 +1,4 @@
 //! Which crate makes the call of a case.
-use crate::arguments::has_known_arguments;
 use probe_case::Trial;
 use probe_columns::answer_columns;
 use probe_devices::answer_devices;
@@ -18,5 +17,5 @@ pub fn answer(case: &Value, trial: &mut Trial) {
         || answer_devices(call, case, trial)
         || answer_questions(call, case, trial)
         || answer_segments(call, case, trial);
-    trial.need(is_made && has_known_arguments(call, case));
+    trial.need(is_made);
 }

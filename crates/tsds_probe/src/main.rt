@@ -3,7 +3,6 @@
 //! what came, and at the end how many passed and failed. Its status is 1 where one failed.
 #![tactic(auto)]
 
-mod arguments;
 mod calls;
 mod table;
 
