@@ -92,20 +92,30 @@ run_tables() {
 }
 
 check_tables
+if command -v python3 > /dev/null; then
+    python3 tests/arguments.py
+    tell $? "the arguments of cases"
+else
+    echo "left out: the arguments of cases, which need python3"
+fi
 # Unproved programs are compiled with checks and without optimisation. There the sweeps over all bytes of segments and the scripts
-# of 64 MiB are left out, which would take minutes.
+# of 64 MiB are left out, which would take minutes, and behind the first of the scripts all but each seventh: a run sets up a reader of
+# a mebibyte, which takes a third of a second there.
 heavy='^{"call":"damaged_segment"|"times":104857[67],'
+thin() {
+    grep -Ev "$heavy" "$1" | awk -v some="$2" 'some && /^[^#].* => / && ++number > 30 && number % 7 { next } { print }'
+}
+left=0
 for table in tests/cases/*.cases; do
     name=${table##*/}
     if is_proved tsds_probe; then
         cp "$table" "$work/cases"
     else
-        grep -Ev "$heavy" "$table" > "$work/cases/$name"
+        thin "$table" "$([ "$name" = tsds_cli.cases ] && echo 1)" > "$work/cases/$name"
+        left=$((left + $(cases_of "$table") - $(cases_of "$work/cases/$name")))
     fi
 done
-if ! is_proved tsds_probe; then
-    echo "left out, unproved: $(cat tests/cases/*.cases | grep -cE "$heavy") cases: sweeps over the bytes of segments, and scripts of 64 MiB"
-fi
+[ "$left" -eq 0 ] || echo "left out, unproved: $left cases: sweeps over the bytes of segments, scripts of 64 MiB, most faults of scripts"
 # Random texts of instants, by Python's calendar.
 if command -v python3 > /dev/null; then
     python3 tests/calendar_cases.py 1 "$(is_proved tsds_probe && echo 20000 || echo 2000)" > "$work/cases/calendar.cases"
