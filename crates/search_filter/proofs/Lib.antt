@@ -1,2 +1,7 @@
 mod Examples
 pub mod Grouped
+pub mod SplitFolds
+pub mod SplitKeys
+pub mod SplitMatches
+pub mod SplitSteps
+pub mod SplitTimes

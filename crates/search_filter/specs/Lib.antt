@@ -4,5 +4,7 @@ pub mod Limits
 pub mod Matching
 pub mod Reading
 pub mod Seen
+pub mod SplitLaws
+pub mod Splitting
 pub mod ValueLaws
 pub mod Values

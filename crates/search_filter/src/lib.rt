@@ -3,6 +3,7 @@
 
 mod clauses;
 mod faults;
+mod laws;
 mod leaves;
 mod limits;
 mod matching;
@@ -10,11 +11,15 @@ mod places;
 mod query;
 mod ranges;
 mod reading;
+mod splits;
+mod tellers;
 mod terms;
 mod values;
 
+pub use laws::{rests_go_by_key, splits_match};
 pub use limits::MOST_TERMS;
 pub use matching::matches;
 pub use query::{Bound, Query};
 pub use reading::{QueryError, read_query};
+pub use splits::{Split, split_query};
 pub use values::{Held, held_at, value_order, values_are_ordered};
