@@ -1,17 +1,17 @@
 -- The first hits with one more.
-use Rattle.std.specs.Prelude.{◌≡◌, ℕ, ℤ, zero, suc, ◌≤◌, nat_le, Bool, true, false, not, List, [], ◌∷◌, length, take, Option, Some, None, if◌then◌else◌}
+use Rattle.std.specs.Prelude.{◌≡◌, ℕ, ℤ, zero, suc, ◌-◌, ◌≤◌, ◌&&◌, nat_le, Bool, true, false, not, List, [], ◌∷◌, length, take, Option, Some, None, if◌then◌else◌}
 use Rattle.std.specs.List.{insert, slice_get}
 use Rattle.std.specs.Ordering.{is_le}
-use Rattle.std.proofs.Common.{refl, ap, ◌∙◌, sym, subst}
-use Rattle.std.proofs.lemmas.Bool.{leb-true}
+use Rattle.std.proofs.Common.{refl, ap, ◌∙◌, sym, subst, arith}
+use Rattle.std.proofs.lemmas.Bool.{and_parts, leb-true}
+use Rattle.std.proofs.lemmas.Option.{slice_get_past}
 use Rattle.row_cells.specs.declared.scalars.Scalar.{Scalar}
-use Rattle.hits_page.specs.Hits.{hit_cmp, is_before, is_before_hit, is_behind, is_behind_hit, place_of}
+use Rattle.hits_page.specs.Hits.{Place, hit_cmp, is_before, is_before_hit, is_behind, is_behind_hit, is_behind_last, place_of}
 use Rattle.hits_page.specs.PageLaws.{hit_total}
-use Rattle.hits_page.specs.Pages.{Stands, best_with}
+use Rattle.hits_page.specs.Pages.{AreFirst, best_with}
 use Rattle.row_cells.specs.Sorted.{put, sorted}
 use Rattle.row_cells.specs.SortedLaws.{Ascend, Before, Behind, BehindFront, put_at, sorted_ascends, take_ascends, take_insert, take_put}
 use Rattle.hits_page.specs.declared.hits.Hit.{Hit}
-use Rattle.hits_page.specs.declared.pager.Pager.{Pager}
 use Rattle.hits_page.specs.declared.sort_keys.SortKey.{SortKey}
 
 not_true : (b : Bool) → not b ≡ true → b ≡ false
@@ -57,15 +57,31 @@ module _ (keys : List SortKey) (x : Hit) where
       by_limit true late = sym (take_insert (hit_cmp keys) (hit_total keys) limit x best at (leb-true limit at late) within ∙ short)
       by_limit false early = refl
 
-same_test : {K S H : Type 0} (f : K → S → H → ℤ → Bool) (k l : K) (s t : S) (h g : H) (i j : ℤ) → k ≡ l → s ≡ t → h ≡ g → i ≡ j → f l t g j ≡ f k s h i
-same_test f k l s t h g i j p q r e = cc
+last_behind : (keys : List SortKey) (p : Place) (hits : List Hit) → is_behind_last keys p hits ≡ true → is_behind keys p hits (length hits) ≡ true
+last_behind keys p [] is = refl
+last_behind keys p (h ∷ hs) is =
+    let less : suc (length hs) - 1 ≡ length hs = omega arith in
+    ap (λ k. is_behind_hit keys p (slice_get (h ∷ hs) k)) (sym less) ∙ is
 
--- a row that was offered, by what the search for its place was handed
-pub offered_one : (p : Pager) (x : Hit) (at : ℕ) (new offered hits : List Hit) (keys : List SortKey) (sort : List (Option Scalar)) (start : ℤ) → keys ≡ p.keys → sort ≡ x.picked.sort → hits ≡ p.best.items → start ≡ x.start →
+-- a row that is behind the last one of enough hits
+pub past_one : (keys : List SortKey) (limit : ℕ) (x : Hit) (best offered : List Hit) → (nat_le limit (length best) && is_behind_last keys (place_of x) best) ≡ true →
+    AreFirst keys limit offered best → AreFirst keys limit (x ∷ offered) best
+past_one keys limit x best offered past first =
+    let parts = and_parts (nat_le limit (length best)) (is_behind_last keys (place_of x) best) past in
+    let at = length best in
+    kept keys x limit at best best offered first (omega arith) (last_behind keys (place_of x) best parts.1)
+    (ap (is_before_hit keys (place_of x)) (slice_get_past best at (omega arith)))
+    (sym (ap (λ b. if b then best else take limit (insert best at x)) parts.0))
+
+same_test : {S H : Type 0} (f : S → H → ℤ → Bool) (s t : S) (h g : H) (i j : ℤ) → s ≡ t → h ≡ g → i ≡ j → f t g j ≡ f s h i
+same_test f s t h g i j q r e = cc
+
+-- a row at the place that the search for it found
+pub placed_one : (keys : List SortKey) (limit : ℕ) (x : Hit) (at : ℕ) (best new offered hits : List Hit) (sort : List (Option Scalar)) (start : ℤ) → sort ≡ x.picked.sort → hits ≡ best → start ≡ x.start →
     at ≤ length hits → is_behind keys (record { sort = sort; row = x.picked.row; start = start }) hits at ≡ true → is_before keys (record { sort = sort; row = x.picked.row; start = start }) hits at ≡ true →
-    new ≡ best_with p.limit at x p.best.items → Stands p offered → new ≡ take p.limit (sorted (hit_cmp p.keys) (x ∷ offered))
-offered_one p x at new offered hits keys sort start keys_are sort_is hits_are start_is within behind before is stands =
-    kept p.keys x p.limit at p.best.items new offered stands.best (subst (λ hs. at ≤ length hs) hits_are within)
-    (same_test (λ ks s hs t. is_behind ks (record { sort = s; row = x.picked.row; start = t }) hs at) keys p.keys sort x.picked.sort hits p.best.items start x.start keys_are sort_is hits_are start_is ∙ behind)
-    (same_test (λ ks s hs t. is_before ks (record { sort = s; row = x.picked.row; start = t }) hs at) keys p.keys sort x.picked.sort hits p.best.items start x.start keys_are sort_is hits_are start_is ∙ before)
+    new ≡ best_with limit at x best → AreFirst keys limit offered best → AreFirst keys limit (x ∷ offered) new
+placed_one keys limit x at best new offered hits sort start sort_is hits_are start_is within behind before is first =
+    kept keys x limit at best new offered first (subst (λ hs. at ≤ length hs) hits_are within)
+    (same_test (λ s hs t. is_behind keys (record { sort = s; row = x.picked.row; start = t }) hs at) sort x.picked.sort hits best start x.start sort_is hits_are start_is ∙ behind)
+    (same_test (λ s hs t. is_before keys (record { sort = s; row = x.picked.row; start = t }) hs at) sort x.picked.sort hits best start x.start sort_is hits_are start_is ∙ before)
     is

@@ -27,6 +27,15 @@ pub struct Hit {
     pub picked: Picked,
 }
 
+/// A row with what it is offered with. It fits the schema.
+#[derive(Clone, Copy)]
+pub struct Offer<'a> {
+    pub index: u32,
+    pub start: i64,
+    pub schema: &'a Schema,
+    pub row: &'a Row,
+}
+
 /// How many rows were offered, and those of the page in order.
 #[derive(Debug, Drop)]
 pub struct Page {

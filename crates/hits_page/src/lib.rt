@@ -14,6 +14,6 @@ mod sorts;
 pub use hits::{Hit, Page, Picked};
 pub use laws::pages_in_any_order;
 pub use limits::DEEPEST;
-pub use pager::{PageError, Pager};
+pub use pager::{PageError, Pager, is_too_deep};
 pub use sort_keys::SortKey;
 pub use sorts::read_sort;

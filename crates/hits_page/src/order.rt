@@ -1,13 +1,15 @@
 //! The order of hits.
-ghost use Rattle.std.specs.Prelude.{◌≡◌, ◌≤◌, length, true};
+ghost use Rattle.std.specs.Prelude.{◌≡◌, ◌≤◌, ◌&&◌, length, nat_le, not, true};
 ghost use Rattle.std.specs.Option.{option_copied};
+ghost use Rattle.std.specs.Ordering.{is_le};
 ghost use Rattle.hits_page.specs.Hits as spec;
 ghost use Rattle.hits_page.specs.Hits.{head_of, place_cmp, place_of, present_cmp, sort_cmp, tail_of};
+ghost use Rattle.search_filter.specs.Seen.{seen};
 
-use crate::hits::Hit;
+use crate::hits::{Hit, Offer};
 use crate::sort_keys::SortKey;
-use row_cells::{Row, Scalar, row_order};
-use search_filter::value_order;
+use row_cells::{Row, Scalar, Schema, row_order};
+use search_filter::{Held, held_at, value_order};
 use std::cmp::Ordering;
 
 /// The first of some values that may be absent, and those behind it.
@@ -70,6 +72,33 @@ fn compare_sorts(keys: &[SortKey], left: &[Option<Scalar>], right: &[Option<Scal
     }
 }
 
+/// The first of the values that a row has, and another value.
+fn compare_held(rising: bool, held: Held<'_>, other: Option<&Scalar>) -> Ordering
+    ensures { result ≡ present_cmp rising (spec.first_of (seen held.entry)) (option_copied other.entry) }
+{
+    match held {
+        Held::Nothing => compare_values(rising, None, other),
+        Held::Number(number) => compare_values(rising, Some(&Scalar::Whole(number)), other),
+        Held::One(value) => compare_values(rising, Some(value), other),
+        Held::Many(values) => compare_values(rising, values.first(), other),
+    }
+}
+
+/// The values of a row as they lie in it, and those of a hit.
+fn compare_row(keys: &[SortKey], schema: &Schema, row: &Row, other: &[Option<Scalar>]) -> Ordering
+    ensures { result ≡ sort_cmp keys.now (spec.sort_values keys.now schema.now.fields row.now) other.now }
+{
+    let Some((key, keys)) = keys.split_first() else {
+        return Ordering::Equal;
+    };
+    let other = split(other);
+    match compare_held(key.rising, held_at(schema, row, key.field), other.first) {
+        Ordering::Less => Ordering::Less,
+        Ordering::Greater => Ordering::Greater,
+        Ordering::Equal => compare_row(keys, schema, row, other.rest),
+    }
+}
+
 /// Where a row stands among hits: by its values, its key and time, and the start of its index's window.
 #[derive(Clone, Copy)]
 pub struct PlaceAt<'a> {
@@ -84,9 +113,38 @@ fn compare(keys: &[SortKey], place: PlaceAt<'_>, other: &Hit) -> Ordering
     match compare_sorts(keys, place.sort, other.picked.sort.as_slice()) {
         Ordering::Less => Ordering::Less,
         Ordering::Greater => Ordering::Greater,
-        Ordering::Equal => {
-            row_order(place.row, &other.picked.row).then(other.start.cmp(&place.start))
-        }
+        Ordering::Equal => compare_ties(place.row, place.start, other),
+    }
+}
+
+/// A row and a hit that no value tells apart.
+fn compare_ties(row: &Row, start: i64, other: &Hit) -> Ordering
+    ensures { result ≡ spec.tie_cmp row.now start other.now }
+{
+    row_order(row, &other.picked.row).then(other.start.cmp(&start))
+}
+
+/// Whether a row stands behind a hit. No value is copied for it.
+fn is_behind(keys: &[SortKey], offer: Offer<'_>, hit: &Hit) -> bool
+    ensures { result ≡ not (is_le (place_cmp keys.now (spec.offered_place keys.now offer.entry) (place_of hit.now))) }
+{
+    match compare_row(keys, offer.schema, offer.row, hit.picked.sort.as_slice()) {
+        Ordering::Less => false,
+        Ordering::Greater => true,
+        Ordering::Equal => compare_ties(offer.row, offer.start, hit).is_gt(),
+    }
+}
+
+/// Whether a row isn't among the first ones: there are so many hits already, and it stands behind the last of them.
+pub fn is_past(keys: &[SortKey], offer: Offer<'_>, hits: &[Hit], limit: usize) -> bool
+    ensures { result ≡ (nat_le limit (length hits.now) && spec.is_behind_last keys.now (spec.offered_place keys.now offer.entry) hits.now) }
+{
+    if hits.len() < limit {
+        return false;
+    }
+    match hits.last() {
+        None => true,
+        Some(last) => is_behind(keys, offer, last),
     }
 }
 

@@ -3,13 +3,14 @@ ghost use Rattle.std.specs.Prelude.{◌≡◌, ◌+◌, ◌<◌, ◌≤◌, ◌^
 ghost use Rattle.std.specs.List.{insert};
 ghost use Rattle.hits_page.specs.Hits as spec;
 ghost use Rattle.hits_page.specs.Limits.{deepest};
-ghost use Rattle.hits_page.specs.Pages.{IsPageCause, Stands, best_with, offered_hit, page_of};
+ghost use Rattle.hits_page.specs.Pages as pages;
+ghost use Rattle.hits_page.specs.Pages.{AreFirst, IsPageCause, Stands, best_with, hit_offered, offered_hit, page_of};
 ghost use Rattle.hits_page.specs.declared.hits.Hit.{Hit};
 
 use crate::counting::one_more;
-use crate::hits::{Hit, Page, Picked, sort_values};
+use crate::hits::{Hit, Offer, Page, Picked, sort_values};
 use crate::limits::DEEPEST;
-use crate::order::{PlaceAt, find_place};
+use crate::order::{PlaceAt, find_place, is_past};
 use crate::sort_keys::SortKey;
 use edge_face::{NoMemory, Text};
 use row_cells::{Row, Scalar, Schema, copy_row};
@@ -41,14 +42,6 @@ pub struct Pager {
     total: u64,
     /// The first hits in order, up to the limit.
     best: Vec<Hit>,
-}
-
-/// A row with what it is offered with.
-#[derive(Clone, Copy)]
-struct Offer<'a> {
-    index: u32,
-    start: i64,
-    row: &'a Row,
 }
 
 /// Puts a hit at its place, and lets go what is behind the limit.
@@ -95,6 +88,31 @@ fn keep_row(
     put_hit(best, at, hit, limit)
 }
 
+/// Keeps a row where it is among the first ones. Another row costs one comparison with the last of these, and nothing is copied.
+fn put_row(
+    alloc: Global,
+    keys: &[SortKey],
+    best: &mut Vec<Hit>,
+    offer: Offer<'_>,
+    limit: usize,
+) -> Result<(), NoMemory>
+    ensures taken { OnOk result ((offered : List Hit) → AreFirst keys.now limit offered best.old.items
+        → AreFirst keys.now limit (hit_offered keys.now offer.entry ∷ offered) best.new.items) }
+    ensures kept { OnErr result (best.new.items ≡ best.old.items) }
+{
+    if is_past(keys, offer, best.as_slice(), limit) {
+        return Ok(());
+    }
+    let sort = sort_values(alloc, keys, offer.schema, offer.row)?;
+    let place = PlaceAt {
+        sort: sort.as_slice(),
+        row: offer.row,
+        start: offer.start,
+    };
+    let at = find_place(keys, place, best.as_slice());
+    keep_row(alloc, best, at, offer, sort, limit)
+}
+
 /// The rows of the hits behind the first ones.
 #[tactic(auto, using(crate::proofs::Cutting::drop_one))]
 fn cut(alloc: Global, best: Vec<Hit>, from: usize) -> Result<Items<Picked>, NoMemory>
@@ -110,6 +128,13 @@ fn cut(alloc: Global, best: Vec<Hit>, from: usize) -> Result<Items<Picked>, NoMe
         }
     }
     Ok(rows)
+}
+
+/// Whether a page of so many hits from one on ends behind hit `DEEPEST`: `Pager::new` refuses exactly such a page as too large.
+pub fn is_too_deep(from: u64, size: u64) -> bool
+    ensures { result ≡ pages.is_too_deep from size }
+{
+    DEEPEST < from || DEEPEST - from < size
 }
 
 impl Pager {
@@ -156,15 +181,19 @@ impl Pager {
         ensures asked { (self.new.keys ≡ self.old.keys) × (self.new.from ≡ self.old.from) × (self.new.size ≡ self.old.size) }
     {
         let total = one_more(self.total)?;
-        let sort = sort_values(alloc, self.keys.as_slice(), schema, row)?;
-        let place = PlaceAt {
-            sort: sort.as_slice(),
-            row,
+        let offer = Offer {
+            index,
             start,
+            schema,
+            row,
         };
-        let at = find_place(self.keys.as_slice(), place, self.best.as_slice());
-        let offer = Offer { index, start, row };
-        keep_row(alloc, &mut self.best, at, offer, sort, self.limit)?;
+        put_row(
+            alloc,
+            self.keys.as_slice(),
+            &mut self.best,
+            offer,
+            self.limit,
+        )?;
         self.total = total;
         Ok(())
     }
