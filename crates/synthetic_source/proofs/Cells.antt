@@ -90,7 +90,7 @@ no_many : (b : Bool) → cond (b && nat_lt 1 1) (Some ManyValues) None ≡ None
 no_many true = refl
 no_many false = refl
 
-read_alone : (kind : FieldType) (role : Role) (leaf : Data) → is_read kind leaf ≡ true → mapped_fault kind role (leaf ∷ []) ≡ None
+pub read_alone : (kind : FieldType) (role : Role) (leaf : Data) → is_read kind leaf ≡ true → mapped_fault kind role (leaf ∷ []) ≡ None
 read_alone kind role leaf read = ap (λ b. cond (not b || false) (Some (wrong_kind kind)) (cond (takes_one role && nat_lt 1 1) (Some ManyValues) None)) read ∙ no_many (takes_one role)
 
 -- what one leaf is, where one is taken

@@ -3,6 +3,8 @@ pub mod Back
 pub mod Cells
 pub mod Decided
 pub mod Documents
+pub mod FlatDocuments
+pub mod FlatSteps
 pub mod Fronts
 pub mod Fuel
 pub mod Grouping

@@ -118,7 +118,7 @@ time_alone : (fs : List Field) (d : Data) → AreTemplateFields fs → leaves_of
 unfolding leaves_of
 time_alone fs d are = at_top (stops_of fs) timestamp time_dotless (time_free fs are) d
 
-listed_time : (fs : List Field) (d : Data) → AreTemplateFields fs → placed_at timestamp (listed (stops_of fs) None d) ≡ leaves_of [] d timestamp
+pub listed_time : (fs : List Field) (d : Data) → AreTemplateFields fs → placed_at timestamp (listed (stops_of fs) None d) ≡ leaves_of [] d timestamp
 unfolding AreLeaves
 listed_time fs d are = listed_are_leaves (stops_of fs) d timestamp ∙ time_alone fs d are
 

@@ -1,6 +1,7 @@
 pub mod Contents
 pub mod Document
 pub mod Faults
+pub mod Flat
 pub mod Fronts
 pub mod Gathered
 pub mod Groups

@@ -4,6 +4,7 @@
 mod content;
 mod contents;
 mod errors;
+mod flat;
 mod gathering;
 mod groups;
 mod laws;

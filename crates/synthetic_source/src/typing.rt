@@ -1,12 +1,14 @@
 //! Documents to rows.
-ghost use Rattle.std.specs.Prelude.{◌≡◌, [], ◌∷◌, length, map, Some, false, IsSome, IfOk, IfErr, OnOk, Ok};
-ghost use Rattle.serde_json.specs.View.{view};
+ghost use Rattle.std.specs.Prelude.{◌≡◌, Bool, [], ◌∷◌, length, map, Some, false, IsSome, IfOk, IfErr, IfSome, OnOk, Ok};
+ghost use Rattle.serde_json.specs.Data.{object};
+ghost use Rattle.serde_json.specs.View.{view, members_view};
 ghost use Rattle.row_cells.specs.Fitting.{CellsFit};
 ghost use Rattle.time_text.specs.Instant.{IsInstant};
 ghost use Rattle.json_walk.specs.Lent.{value_of};
 ghost use Rattle.ts_mapping.specs.Schemas.{AreTemplateFields, IsTemplateSchema};
 ghost use Rattle.synthetic_source.specs.Document.{IsFaultOf, document_cells, document_of};
 ghost use Rattle.synthetic_source.specs.Faults.{HasNoFault, IsCellFault, IsFault, IsTimeFault, time_in, time_of};
+ghost use Rattle.synthetic_source.specs.Flat.{IsSoundRow};
 ghost use Rattle.synthetic_source.specs.Gathered.{AreTimed, slot_leaves};
 ghost use Rattle.synthetic_source.specs.Times.{AllLent, IsFirstOf, IsRefusal, IsTimeFaultIn, lent_leaves};
 ghost use Rattle.synthetic_source.specs.Outcomes.{IsDecided, IsOutcome, IsSettled, IsWithin};
@@ -15,13 +17,14 @@ ghost use Rattle.synthetic_source.specs.Walked.{seen_fault, seen_walk};
 ghost use Rattle.synthetic_source.specs.Strays.{seen_stray};
 
 use crate::errors::{DocError, DocKind};
+use crate::flat::{Flat, read_flat};
 use crate::reading::{Cells, read_cells};
 use crate::strays::LeastFault;
 use crate::walking::{Walk, walk_document};
 use edge_face::{NoMemory, Text};
 use json_walk::{Leaf, leaves_at};
 use row_cells::{Cell, Field, FieldType, Scalar, Schema};
-use serde_json::Value;
+use serde_json::{Map, Value};
 use sqlite_items::Items;
 use std::alloc::Global;
 use std::str::from_utf8;
@@ -182,7 +185,59 @@ fn outcome_of(
     Ok(outcome)
 }
 
-fn decide_cells(
+// The row of an object's members, where they are flat and have a time.
+#[tactic(auto, using(crate::proofs::FlatDocuments::timed_row))]
+fn row_of_members(
+    alloc: Global,
+    schema: &Schema,
+    _strict: bool,
+    members: &Map<String, Value>,
+) -> Result<Option<Typed>, NoMemory>
+    requires { IsTemplateSchema schema.now }
+    ensures { IfOk result (λ row. IfSome row (IsSoundRow schema.now _strict (object (members_view members.now.entries)))) }
+{
+    let fields = schema.fields.as_slice();
+    match read_flat(alloc, fields, members)? {
+        None => Ok(None),
+        Some(flat) => Ok(timed(flat)),
+    }
+}
+
+// The row of a document, where it is flat and has a time: it has no fault then, whether mappings are strict or not.
+fn flat_row(
+    alloc: Global,
+    schema: &Schema,
+    strict: bool,
+    doc: &Value,
+) -> Result<Option<Typed>, NoMemory>
+    requires { IsTemplateSchema schema.now }
+    ensures { IfOk result (λ row. IfSome row (IsSoundRow schema.now strict (view doc.now))) }
+{
+    match doc {
+        Value::Object(members) => row_of_members(alloc, schema, strict, members),
+        _ => Ok(None),
+    }
+}
+
+// What was read of a document, where it has a time.
+fn timed(flat: Flat) -> Option<Typed>
+    ensures { IfSome result (λ typed. (flat.time ≡ Some typed.time) × (flat.cells ≡ typed.cells)) }
+{
+    let Flat { time, cells } = flat;
+    match time {
+        None => None,
+        Some(time) => Some(Typed { time, cells }),
+    }
+}
+
+fn cells_alone(typed: Typed) -> Items<Cell>
+    ensures { result ≡ typed.cells }
+{
+    let Typed { time: _, cells } = typed;
+    cells
+}
+
+fn walk_cells(
     alloc: Global,
     schema: &Schema,
     strict: bool,
@@ -201,6 +256,28 @@ fn decide_cells(
     match outcome {
         Outcome::Row(cells) => Ok(cells),
         Outcome::Fault(fault) => Err(fault),
+    }
+}
+
+fn decide_cells(
+    alloc: Global,
+    schema: &Schema,
+    strict: bool,
+    doc: &Value,
+) -> Result<Items<Cell>, DocError>
+    requires schema { IsTemplateSchema schema.now }
+    requires timed { IsSome (time_of (view doc.now)) }
+    ensures sound { OnOk result (HasNoFault schema.now strict (view doc.now)) }
+    ensures cells { IfOk result (λ cells. cells ≡ cells_of schema.now (view doc.now)) }
+    ensures fits { IfOk result (λ cells. CellsFit false schema.now.rises 1 schema.now.fields cells) }
+    ensures refused { IfErr result (IsCellFault schema.now strict (view doc.now)) }
+{
+    let Ok(row) = flat_row(alloc, schema, strict, doc) else {
+        return Err(DocError::NoMemory);
+    };
+    match row {
+        Some(typed) => Ok(cells_alone(typed)),
+        None => walk_cells(alloc, schema, strict, doc),
     }
 }
 
@@ -225,7 +302,7 @@ pub fn type_cells(
     }
 }
 
-fn decide_doc(alloc: Global, schema: &Schema, strict: bool, doc: &Value) -> Result<Typed, DocError>
+fn walk_doc(alloc: Global, schema: &Schema, strict: bool, doc: &Value) -> Result<Typed, DocError>
     requires { IsTemplateSchema schema.now }
     ensures ok { IfOk result (IsTyped schema.now strict (view doc.now)) }
     ensures fits { IfOk result (λ typed. IsInstant typed.time × CellsFit false schema.now.rises 1 schema.now.fields typed.cells) }
@@ -238,6 +315,21 @@ fn decide_doc(alloc: Global, schema: &Schema, strict: bool, doc: &Value) -> Resu
     match outcome {
         Outcome::Row(cells) => Ok(Typed { time, cells }),
         Outcome::Fault(fault) => Err(fault),
+    }
+}
+
+fn decide_doc(alloc: Global, schema: &Schema, strict: bool, doc: &Value) -> Result<Typed, DocError>
+    requires { IsTemplateSchema schema.now }
+    ensures ok { IfOk result (IsTyped schema.now strict (view doc.now)) }
+    ensures fits { IfOk result (λ typed. IsInstant typed.time × CellsFit false schema.now.rises 1 schema.now.fields typed.cells) }
+    ensures refused { IfErr result (IsFault schema.now strict (view doc.now)) }
+{
+    let Ok(row) = flat_row(alloc, schema, strict, doc) else {
+        return Err(DocError::NoMemory);
+    };
+    match row {
+        Some(typed) => Ok(typed),
+        None => walk_doc(alloc, schema, strict, doc),
     }
 }
 

@@ -2,7 +2,7 @@ use Rattle.std.proofs.Common.{subst}
 use Rattle.serde_json.specs.View.{view}
 use Rattle.synthetic_source.specs.Outcomes.{IsOutcome}
 use Rattle.synthetic_source.proofs.Documents.{later_fault}
-use Rattle.synthetic_source.proofs.typing.decide_doc.Goals as goal
+use Rattle.synthetic_source.proofs.typing.walk_doc.Goals as goal
 
 pub returns-in-Fault-clause-refused : goal.returns-in-Fault-clause-refused
 returns-in-Fault-clause-refused c =
