@@ -1,12 +1,11 @@
 -- What a flat document's members are: the leaves of its fields, and nothing else.
-use Rattle.std.proofs.Common.{◌≡◌, ◌⊎◌, inl, inr, ℕ, ℤ, List, [], ◌∷◌, ◌++◌, map, filter, ◌||◌, Bool, true, false, true≢false, cond, not, bytes_eq, Option, Some, None, refl, sym, ap, ap₂, ◌∙◌, subst}
+use Rattle.std.proofs.Common.{◌≡◌, ◌⊎◌, inl, inr, ℕ, ℤ, List, [], ◌∷◌, ◌++◌, map, filter, Bool, true, false, true≢false, cond, bytes_eq, Option, Some, None, refl, sym, ap, ap₂, ◌∙◌, subst}
 use Rattle.std.specs.Prelude.{IfSome}
 use Rattle.std.specs.Option.{is_some}
 use Rattle.std.proofs.lemmas.Slice.Eq.{bytes_eq-Decides}
 use Rattle.row_cells.specs.Dimensions.{IsBefore}
 use Rattle.row_cells.specs.JoinLaws.{before_chain}
-use Rattle.row_cells.specs.Fitting.{CellFits, CellsFit, IsValueOf}
-use Rattle.row_cells.specs.Joining.{IsIn}
+use Rattle.row_cells.specs.Fitting.{IsValueOf}
 use Rattle.row_cells.specs.WidenLaws.{apart, other_bytes, same_bytes}
 use Rattle.row_cells.specs.declared.scalars.Scalar.{Scalar}
 use Rattle.row_cells.specs.declared.scalars.Scalar.TheVariants.{Whole, Flag, Word}
@@ -19,7 +18,7 @@ use Rattle.row_cells.specs.declared.schemas.Schema.{Schema}
 use Rattle.row_cells.specs.declared.rows.Cell.{Cell}
 use Rattle.row_cells.specs.declared.rows.Cell.TheVariants.{Absent, One, Many}
 use Rattle.serde_json.specs.Data.{Data, null, boolean, number, string, array, object, Members, no_members, member}
-use Rattle.json_walk.specs.Leaves.{AreLeaves, leaves_of, placed_at}
+use Rattle.json_walk.specs.Leaves.{placed_at}
 use Rattle.json_walk.specs.Listed.{listed, listed_members}
 use Rattle.json_walk.specs.WalkLaws.{listed_are_leaves}
 use Rattle.time_text.specs.Instant.{IsInstant}
@@ -28,12 +27,12 @@ use Rattle.ts_mapping.specs.Readings.{aggregate_of, reading_of}
 use Rattle.ts_mapping.specs.RoleLaws.{date_is}
 use Rattle.ts_mapping.specs.Roles.{is_aggregate, may_have}
 use Rattle.ts_mapping.specs.Schemas.{AreTemplateFields, IsTemplateSchema, time_field}
-use Rattle.synthetic_source.specs.Faults.{field_at, is_read, mapped_fault, number_read, stops_of, stray_fault, takes_one, time_in, time_of}
+use Rattle.synthetic_source.specs.Faults.{field_at, is_read, number_read, stops_of, takes_one, time_in, time_of}
 use Rattle.synthetic_source.specs.Flat.{AreFlat, IsSoundRow, time_after, value_cell}
 use Rattle.synthetic_source.specs.Gathered.{AllSound, AreRead, IsAmong, IsReadAs, by_field, paths_of, place_of, strays_of, with_stray}
 use Rattle.synthetic_source.specs.Outcomes.{IsOutcome}
 use Rattle.synthetic_source.specs.Places.{Rise, RiseAfter}
-use Rattle.synthetic_source.specs.Rows.{IsTyped, cell_of, one_cell, parts_cell, with_reading}
+use Rattle.synthetic_source.specs.Rows.{one_cell, parts_cell, with_reading}
 use Rattle.synthetic_source.specs.Values.{ordered}
 use Rattle.synthetic_source.specs.declared.flat.Flat.{Flat}
 use Rattle.synthetic_source.specs.declared.reading.Cells.TheVariants.{All}

@@ -20,7 +20,6 @@ pub mod PrintedLevels
 pub mod PrintedRows
 pub mod PrintedTexts
 pub mod PrintedTrees
-pub mod Puts
 pub mod Reaching
 pub mod ReadBack
 pub mod Rows
@@ -31,4 +30,5 @@ pub mod Timed
 pub mod Times
 pub mod TypedWalk
 pub mod Values
+pub mod ValueTrees
 pub mod OneWalk

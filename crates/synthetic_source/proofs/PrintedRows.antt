@@ -19,7 +19,7 @@ use Rattle.row_cells.specs.declared.rows.Row.{Row}
 use Rattle.row_cells.specs.Fitting.{IsNumberOf, IsValueOf, AreValues, AreValuesAfter, CellFits, CellsFit, Fits}
 use Rattle.row_cells.specs.KeyedLaws.{number_fits}
 use Rattle.row_cells.specs.Mapped.{ArePaths}
-use Rattle.serde_json.specs.Data.{string, depth, items_depth}
+use Rattle.serde_json.specs.Data.{depth, items_depth}
 use Rattle.serde_json.specs.Find.{of_integer}
 use Rattle.serde_json.specs.View.{items_of}
 use Rattle.time_text.specs.Instant.{IsInstant}
@@ -200,54 +200,80 @@ cell_depth kind (Rise r) = omega (arith, whole_flat kind r.last)
 
 -- ---- rows
 
--- fields as they are shown, of paths that are short
-abbrev AreSound : List Shown → Type 0
-AreSound es = AreTexts es × AreWithin 126 es
+-- what fields show prints and reads back
+cell_texts : (path : List ℕ) (kind : FieldType) (cell : Cell) (es : List Shown) → IsUtf8 path → IsPrintable (cell_data kind cell) → AreTexts es → AreTexts (shown_cell path kind cell es)
+cell_texts path kind Absent es text value rest = rest
+cell_texts path kind (One v) es text value rest = (text, value, rest)
+cell_texts path kind (Many vs) es text value rest = (text, value, rest)
+cell_texts path kind (Gauge p) es text value rest = (text, value, rest)
+cell_texts path kind (Rise r) es text value rest = (text, value, rest)
 
-one_sound : (e : Shown) (es : List Shown) → IsUtf8 e.path → IsPrintable e.value → parts_of e.path ≤ 126 → depth e.value ≤ 1 → AreSound es → AreSound (e ∷ es)
-one_sound e es path value parts deep rest = ((path, value, rest.0), (omega arith, rest.1))
+role_texts : (role : Role) (time : ℤ) (f : Field) (cell : Cell) (es : List Shown) → IsInstant time → IsUtf8 f.path → IsPrintable (cell_data f.kind cell) → AreTexts es → AreTexts (shown_as role time f cell es)
+role_texts Time time f cell es is text value rest = (text, instant_printable time is, rest)
+role_texts Dimension time f cell es is text value rest = cell_texts f.path f.kind cell es text value rest
+role_texts GaugeRole time f cell es is text value rest = cell_texts f.path f.kind cell es text value rest
+role_texts Counter time f cell es is text value rest = cell_texts f.path f.kind cell es text value rest
+role_texts Label time f cell es is text value rest = cell_texts f.path f.kind cell es text value rest
 
-cell_sound : (path : List ℕ) (kind : FieldType) (cell : Cell) (es : List Shown) → IsUtf8 path → parts_of path ≤ 126 → IsPrintable (cell_data kind cell) → AreSound es → AreSound (shown_cell path kind cell es)
-cell_sound path kind Absent es text parts value rest = rest
-cell_sound path kind (One v) es text parts value rest = one_sound (record { path = path; value = cell_data kind (One v) }) es text value parts (cell_depth kind (One v)) rest
-cell_sound path kind (Many vs) es text parts value rest = one_sound (record { path = path; value = cell_data kind (Many vs) }) es text value parts (cell_depth kind (Many vs)) rest
-cell_sound path kind (Gauge p) es text parts value rest = one_sound (record { path = path; value = cell_data kind (Gauge p) }) es text value parts (cell_depth kind (Gauge p)) rest
-cell_sound path kind (Rise r) es text parts value rest = one_sound (record { path = path; value = cell_data kind (Rise r) }) es text value parts (cell_depth kind (Rise r)) rest
+fields_texts : (folded rises : Bool) (n : ℕ) (time : ℤ) (fs : List Field) (cs : List Cell) → IsInstant time → ArePaths fs → CellsFit folded rises n fs cs → HaveSmallSums cs → AreTexts (shown_of time fs cs)
+fields_texts folded rises n time [] [] is paths fit small = tt
+fields_texts folded rises n time [] (c ∷ cs) is paths fit small = absurd fit
+fields_texts folded rises n time (f ∷ fs) [] is paths fit small = absurd fit
+fields_texts folded rises n time (f ∷ fs) (c ∷ cs) is paths fit small =
+    role_texts f.role time f c (shown_of time fs cs) is paths.0.text (cell_printable folded rises f.kind f.role n c fit.0 small.0) (fields_texts folded rises n time fs cs is paths.1 fit.1 small.1)
 
-role_sound : (role : Role) (time : ℤ) (f : Field) (cell : Cell) (es : List Shown) → IsInstant time → IsUtf8 f.path → parts_of f.path ≤ 126 → IsPrintable (cell_data f.kind cell) → AreSound es → AreSound (shown_as role time f cell es)
-role_sound Time time f cell es is text parts value rest = one_sound (record { path = f.path; value = string (instant_text time) }) es text (instant_printable time is) parts (omega arith) rest
-role_sound Dimension time f cell es is text parts value rest = cell_sound f.path f.kind cell es text parts value rest
-role_sound GaugeRole time f cell es is text parts value rest = cell_sound f.path f.kind cell es text parts value rest
-role_sound Counter time f cell es is text parts value rest = cell_sound f.path f.kind cell es text parts value rest
-role_sound Label time f cell es is text parts value rest = cell_sound f.path f.kind cell es text parts value rest
+count_texts : (folded : Bool) (count : ℕ) → count ≤ most_documents → AreTexts (count_shown folded count)
+count_texts false count few = tt
+count_texts true count few = (IsUtf8-are_ascii _ refl, omega arith, tt)
 
-fields_sound : (folded rises : Bool) (n : ℕ) (time : ℤ) (fs : List Field) (cs : List Cell) → IsInstant time → ArePaths fs → AreShallow fs → CellsFit folded rises n fs cs → HaveSmallSums cs → AreSound (shown_of time fs cs)
-fields_sound folded rises n time [] [] is paths shallow fit small = (tt, tt)
-fields_sound folded rises n time [] (c ∷ cs) is paths shallow fit small = absurd fit
-fields_sound folded rises n time (f ∷ fs) [] is paths shallow fit small = absurd fit
-fields_sound folded rises n time (f ∷ fs) (c ∷ cs) is paths shallow fit small =
-    role_sound f.role time f c (shown_of time fs cs) is paths.0.text shallow.0 (cell_printable folded rises f.kind f.role n c fit.0 small.0) (fields_sound folded rises n time fs cs is paths.1 shallow.1 fit.1 small.1)
+append_texts : (es ds : List Shown) → AreTexts es → AreTexts ds → AreTexts (es ++ ds)
+append_texts [] ds h k = k
+append_texts (e ∷ es) ds h k = (h.0, h.1, append_texts es ds h.2 k)
 
-count_sound : (folded : Bool) (count : ℕ) → count ≤ most_documents → AreSound (count_shown folded count)
-count_sound false count few = (tt, tt)
-count_sound true count few = ((IsUtf8-are_ascii _ refl, omega arith, tt), (omega arith, tt))
+-- and lies few levels deep, where paths are short
+cell_within : (path : List ℕ) (kind : FieldType) (cell : Cell) (es : List Shown) → parts_of path ≤ 126 → AreWithin 126 es → AreWithin 126 (shown_cell path kind cell es)
+cell_within path kind Absent es parts rest = rest
+cell_within path kind (One v) es parts rest = let deep = cell_depth kind (One v) in (omega arith, rest)
+cell_within path kind (Many vs) es parts rest = let deep = cell_depth kind (Many vs) in (omega arith, rest)
+cell_within path kind (Gauge p) es parts rest = let deep = cell_depth kind (Gauge p) in (omega arith, rest)
+cell_within path kind (Rise r) es parts rest = let deep = cell_depth kind (Rise r) in (omega arith, rest)
 
-append_sound : (es ds : List Shown) → AreSound es → AreSound ds → AreSound (es ++ ds)
-append_sound [] ds h k = k
-append_sound (e ∷ es) ds h k = let rest = append_sound es ds (h.0.2, h.1.1) k in ((h.0.0, h.0.1, rest.0), (h.1.0, rest.1))
+role_within : (role : Role) (time : ℤ) (f : Field) (cell : Cell) (es : List Shown) → parts_of f.path ≤ 126 → AreWithin 126 es → AreWithin 126 (shown_as role time f cell es)
+role_within Time time f cell es parts rest = (omega arith, rest)
+role_within Dimension time f cell es parts rest = cell_within f.path f.kind cell es parts rest
+role_within GaugeRole time f cell es parts rest = cell_within f.path f.kind cell es parts rest
+role_within Counter time f cell es parts rest = cell_within f.path f.kind cell es parts rest
+role_within Label time f cell es parts rest = cell_within f.path f.kind cell es parts rest
 
-row_sound : (schema : Schema) (row : Row) → IsTemplateSchema schema → Fits schema row → AreShallow schema.fields → HaveSmallSums row.cells → AreSound (shown_row schema row)
-row_sound schema row template fits shallow small =
-    append_sound (shown_of row.time schema.fields row.cells) (count_shown schema.folded row.count)
-    (fields_sound schema.folded schema.rises row.count row.time schema.fields row.cells fits.instant template.mapped.paths shallow fits.cells_fit small)
-    (count_sound schema.folded row.count fits.count_within)
+fields_within : (time : ℤ) (fs : List Field) (cs : List Cell) → AreShallow fs → AreWithin 126 (shown_of time fs cs)
+fields_within time [] cs shallow = tt
+fields_within time (f ∷ fs) [] shallow = tt
+fields_within time (f ∷ fs) (c ∷ cs) shallow = role_within f.role time f c (shown_of time fs cs) shallow.0 (fields_within time fs cs shallow.1)
 
-pub norm_printable : (schema : Schema) (row : Row) → IsTemplateSchema schema → Fits schema row → AreShallow schema.fields → HaveSmallSums row.cells → IsPrintable (norm schema row)
+count_within : (folded : Bool) (count : ℕ) → AreWithin 126 (count_shown folded count)
+count_within false count = tt
+count_within true count = (omega arith, tt)
+
+append_within : (es ds : List Shown) → AreWithin 126 es → AreWithin 126 ds → AreWithin 126 (es ++ ds)
+append_within [] ds h k = k
+append_within (e ∷ es) ds h k = (h.0, append_within es ds h.1 k)
+
+row_texts : (schema : Schema) (row : Row) → IsTemplateSchema schema → Fits schema row → HaveSmallSums row.cells → AreTexts (shown_row schema row)
+row_texts schema row template fits small =
+    append_texts (shown_of row.time schema.fields row.cells) (count_shown schema.folded row.count)
+    (fields_texts schema.folded schema.rises row.count row.time schema.fields row.cells fits.instant template.mapped.paths fits.cells_fit small)
+    (count_texts schema.folded row.count fits.count_within)
+
+row_within : (schema : Schema) (row : Row) → AreShallow schema.fields → AreWithin 126 (shown_row schema row)
+row_within schema row shallow =
+    append_within (shown_of row.time schema.fields row.cells) (count_shown schema.folded row.count) (fields_within row.time schema.fields row.cells shallow) (count_within schema.folded row.count)
+
+pub norm_printable : (schema : Schema) (row : Row) → IsTemplateSchema schema → Fits schema row → HaveSmallSums row.cells → IsPrintable (norm schema row)
 unfolding norm levels
-norm_printable schema row template fits shallow small = level_printable (longest (shown_row schema row)) (shown_row schema row) (row_sound schema row template fits shallow small).0
+norm_printable schema row template fits small = level_printable (longest (shown_row schema row)) (shown_row schema row) (row_texts schema row template fits small)
 
-pub norm_depth : (schema : Schema) (row : Row) → IsTemplateSchema schema → Fits schema row → AreShallow schema.fields → HaveSmallSums row.cells → depth (norm schema row) ≤ 127
+pub norm_depth : (schema : Schema) (row : Row) → AreShallow schema.fields → depth (norm schema row) ≤ 127
 unfolding norm levels
-norm_depth schema row template fits shallow small =
-    let within = level_depth (longest (shown_row schema row)) 126 (shown_row schema row) (row_sound schema row template fits shallow small).1 in
+norm_depth schema row shallow =
+    let within = level_depth (longest (shown_row schema row)) 126 (shown_row schema row) (row_within schema row shallow) in
     omega arith

@@ -74,21 +74,21 @@ mutual
 
 -- ---- members that ascend go in one after another
 
-abbrev then_members : Members → Members → Members
+abbrev pub then_members : Members → Members → Members
 then_members no_members ms = ms
 then_members (member k d rest) ms = member k d (then_members rest ms)
 
 -- the name is after all of these
-abbrev IsAbove : List ℕ → Members → Type 0
+abbrev pub IsAbove : List ℕ → Members → Type 0
 IsAbove k no_members = Unit {0}
 IsAbove k (member l d ms) = IsBefore l k × IsAbove k ms
 
-put_last : (k : List ℕ) (d : Data) (found : Members) → IsAbove k found → put k d found ≡ then_members found (member k d no_members)
+pub put_last : (k : List ℕ) (d : Data) (found : Members) → IsAbove k found → put k d found ≡ then_members found (member k d no_members)
 put_last k d no_members above = refl
 put_last k d (member l e ms) above =
     ap (λ o. match_ordering o (member k d (member l e ms)) (member l d ms) (member l e (put k d ms))) (after_is l k above.0) ∙ ap (member l e) (put_last k d ms above.1)
 
-then_more : (found : Members) (k : List ℕ) (d : Data) (ms : Members) → then_members (then_members found (member k d no_members)) ms ≡ then_members found (member k d ms)
+pub then_more : (found : Members) (k : List ℕ) (d : Data) (ms : Members) → then_members (then_members found (member k d no_members)) ms ≡ then_members found (member k d ms)
 then_more no_members k d ms = refl
 then_more (member l e rest) k d ms = ap (member l e) (then_more rest k d ms)
 
@@ -97,21 +97,25 @@ above_more no_members k l d above before = (before, tt)
 above_more (member m e rest) k l d above before = (before_chain m k l above.0 before, above_more rest k l d above.1 before)
 
 -- the first of these names is after all that were found
-abbrev AreAbove : Members → Members → Type 0
+abbrev pub AreAbove : Members → Members → Type 0
 AreAbove no_members found = Unit {0}
 AreAbove (member k d ms) found = IsAbove k found
 
-next_above : (ms : Members) (k : List ℕ) (d : Data) (found : Members) → RiseAfter k (names ms) → IsAbove k found → AreAbove ms (then_members found (member k d no_members))
+pub next_above : (ms : Members) (k : List ℕ) (d : Data) (found : Members) → RiseAfter k (names ms) → IsAbove k found → AreAbove ms (then_members found (member k d no_members))
 next_above no_members k d found rise above = tt
 next_above (member l e ms) k d found rise above = above_more found k l d above rise.0
 
-tail_rises : (k : List ℕ) (ms : Members) → RiseAfter k (names ms) → Rise (names ms)
+pub tail_rises : (k : List ℕ) (ms : Members) → RiseAfter k (names ms) → Rise (names ms)
 tail_rises k no_members rise = tt
 tail_rises k (member l e ms) rise = rise.1
 
-then_none : (ms : Members) (found : Members) → ms ≡ no_members → then_members found ms ≡ found
+pub then_none : (ms : Members) (found : Members) → ms ≡ no_members → then_members found ms ≡ found
 then_none ms no_members none = none
 then_none ms (member k d rest) none = ap (member k d) (then_none ms rest none)
+
+pub none_above : (ms : Members) → AreAbove ms no_members
+none_above no_members = tt
+none_above (member k d ms) = tt
 
 mutual
   outline_read : (d : Data) → IsPrintable d → of_json (outline d) ≡ Some d
@@ -133,10 +137,6 @@ mutual
       ∙ (ap (of_members (members_outline ms)) (put_last k d found above)
       ∙ (members_read ms (then_members found (member k d no_members)) (tail_rises k ms rise) h.2 (next_above ms k d found rise above)
       ∙ ap Some (then_more found k d ms)))
-
-  none_above : (ms : Members) → AreAbove ms no_members
-  none_above no_members = tt
-  none_above (member k d ms) = tt
 
 -- ---- the text
 

@@ -16,7 +16,6 @@ pub mod Rows
 pub mod Seen
 pub mod Shallow
 pub mod Sides
-pub mod Smalls
 pub mod Sorts
 pub mod Strays
 pub mod Times

@@ -3,8 +3,7 @@ ghost use Rattle.std.specs.Prelude.{◌≡◌, [], ◌++◌, false, IfOk, OnOk};
 ghost use Rattle.row_cells.specs.Fitting.{Fits};
 ghost use Rattle.ts_mapping.specs.Schemas.{IsTemplateSchema};
 ghost use Rattle.time_text.specs.Instant.{IsInstant};
-ghost use Rattle.serde_json.specs.View.{view, members_view};
-ghost use Rattle.synthetic_source.specs.Smalls.{AreSmall};
+ghost use Rattle.serde_json.specs.View.{view};
 ghost use Rattle.synthetic_source.specs.Contents.{AreShowable, IsShowable};
 ghost use Rattle.synthetic_source.specs.Levels.{levels};
 ghost use Rattle.synthetic_source.specs.Normal.{count_shown, norm, shown_cell, shown_field, shown_of, shown_row};
@@ -14,12 +13,12 @@ ghost use Rattle.synthetic_source.specs.Seen.{seen_all, with_content};
 use crate::content::Content;
 use crate::contents::content_out;
 use crate::groups::{Entry, groups_of};
-use crate::plain::{content_value, put_member};
+use crate::tree_values::tree_value;
 use crate::what::What;
 use edge_face::{NoMemory, Text};
 use reply_json::{Member, Out};
 use row_cells::{Cell, Field, Role, Row, Schema};
-use serde_json::{Map, Value};
+use serde_json::Value;
 use sqlite_items::Items;
 use std::alloc::Global;
 
@@ -36,23 +35,6 @@ fn members_out(alloc: Global, entries: &[Entry<'_>]) -> Result<Vec<Member>, NoMe
         };
         let name = Text::new(alloc, group.name)?;
         members.push(Member { name, value })?;
-    }
-    Ok(members)
-}
-
-// The members of a level as values.
-fn members_value(alloc: Global, entries: &[Entry<'_>]) -> Result<Map<String, Value>, NoMemory>
-    requires { AreSmall (seen_all entries.now) }
-    ensures { IfOk result (λ members. members_view members.entries ≡ levels (seen_all entries.now)) }
-{
-    let groups = groups_of(alloc, entries)?;
-    let mut members = Map::new(alloc);
-    for group in &groups {
-        let value = match group.content {
-            Some(content) => content_value(alloc, content)?,
-            None => Value::Object(members_value(alloc, group.below.as_slice())?),
-        };
-        put_member(alloc, &mut members, group.name, value)?;
     }
     Ok(members)
 }
@@ -175,14 +157,14 @@ pub fn rebuild(alloc: Global, schema: &Schema, row: &Row) -> Result<Out, NoMemor
 }
 
 /// The document that a row of a raw schema stands for, as a value: its normal form.
-#[tactic(auto, using(crate::proofs::Puts::small_row), unfolding(crate::specs::Normal::norm))]
+#[tactic(auto, using(crate::proofs::ValueTrees::row_value))]
 pub fn rebuild_value(alloc: Global, schema: &Schema, row: &Row) -> Result<Value, NoMemory>
     requires schema { IsTemplateSchema schema.now }
     requires raw { schema.now.folded ≡ false }
     requires fits { Fits schema.now row.now }
     ensures { IfOk result (λ v. view v ≡ norm schema.now row.now) }
 {
-    let entries = all_entries(alloc, schema, row)?;
-    let members = members_value(alloc, entries.as_slice())?;
-    Ok(Value::Object(members))
+    let out = rebuild(alloc, schema, row)?;
+    let value = tree_value(alloc, &out)?;
+    Ok(value)
 }

@@ -1,7 +1,6 @@
 use Rattle.std.proofs.Common.{◌≡◌, ◌∙◌, ap, ap₂, sym, subst}
 use Rattle.std.specs.Prelude.{IfSome, None, Some}
 use Rattle.row_cells.specs.Fitting.{IsValueOf}
-use Rattle.serde_json.specs.Data.{no_members}
 use Rattle.serde_json.specs.View.{view, members_view}
 use Rattle.ts_mapping.specs.Readings.{reading_of}
 use Rattle.synthetic_source.specs.Flat.{AreFlat, IsAhead, members_ahead}

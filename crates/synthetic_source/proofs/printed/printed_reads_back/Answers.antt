@@ -7,7 +7,7 @@ use Rattle.synthetic_source.proofs.printed.printed_reads_back.Goals as goal
 
 pub returns-clause-folded : goal.returns-clause-folded
 returns-clause-folded c schema row template fits shallow small =
-    printed_read (norm schema row) (norm_printable schema row template fits shallow small) (norm_depth schema row template fits shallow small)
+    printed_read (norm schema row) (norm_printable schema row template fits small) (norm_depth schema row shallow)
 
 pub returns-clause-raw : goal.returns-clause-raw
 returns-clause-raw c schema row template fits shallow raw =
