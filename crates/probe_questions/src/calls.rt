@@ -7,6 +7,8 @@ fn of_questions(call: &str, case: &Value, trial: &mut Trial) -> Option<bool> {
     match call {
         "matches" => queries::matching(case, trial)?,
         "page" => pages::page(case, trial)?,
+        "split" => queries::splitting(case, trial)?,
+        "too_deep" => pages::depth(case, trial)?,
         "read_aggs" => aggs::read(case, trial)?,
         "metric_out" => aggs::metric(case, trial)?,
         _ => return Some(false),

@@ -1,8 +1,9 @@
 //! Pages of the rows of documents.
 ghost use Rattle.std.specs.Prelude.{◌≤◌};
 
-use hits_page::{Page, PageError, Pager, Picked, SortKey, read_sort};
-use probe_case::Trial;
+use hits_page::{Page, PageError, Pager, Picked, SortKey, is_too_deep, read_sort};
+use json_walk::whole;
+use probe_case::{Trial, list_or_none};
 use probe_rows::{all_rows, put_scalar, schema_at};
 use row_cells::{Row, Scalar, Schema};
 use serde_json::Value;
@@ -60,17 +61,38 @@ fn put_error(error: PageError, trial: &mut Trial) {
     }
 }
 
-/// Offers each row with its place.
-fn offer_all(pager: &mut Pager, schema: &Schema, rows: &[Row], trial: &mut Trial) {
-    for (place, row) in rows.iter().enumerate() {
-        let index = place.min(1_000_000) as u32;
-        trial.need(pager.offer(trial.alloc, index, 0, schema, row).is_ok());
+/// Where the window of a row's index begins: the number at its place, or else 0.
+fn start_at(starts: &[Value], place: usize) -> i64 {
+    match starts.get(place) {
+        Some(start) => whole(start).unwrap_or(0),
+        None => 0,
     }
 }
 
-fn put_offered(pager: Pager, schema: &Schema, rows: &[Row], trial: &mut Trial) {
+/// Offers each row with its place.
+fn offer_all(
+    pager: &mut Pager,
+    schema: &Schema,
+    rows: &[Row],
+    starts: &[Value],
+    trial: &mut Trial,
+) {
+    for (place, row) in rows.iter().enumerate() {
+        let index = place.min(1_000_000) as u32;
+        let start = start_at(starts, place);
+        trial.need(pager.offer(trial.alloc, index, start, schema, row).is_ok());
+    }
+}
+
+fn put_offered(pager: Pager, schema: &Schema, rows: &[Row], case: &Value, trial: &mut Trial) {
     let mut pager = pager;
-    offer_all(&mut pager, schema, rows, trial);
+    offer_all(
+        &mut pager,
+        schema,
+        rows,
+        list_or_none(case, "starts"),
+        trial,
+    );
     match pager.finish(trial.alloc) {
         Ok(page) => put_page(&page, trial),
         Err(_) => trial.give_up(),
@@ -94,7 +116,7 @@ fn put_sorted(
     let from = bound(trial.number(case, "from"));
     let size = bound(trial.number(case, "size"));
     match Pager::new(trial.alloc, sort, from, size) {
-        Ok(pager) => put_offered(pager, schema, rows, trial),
+        Ok(pager) => put_offered(pager, schema, rows, case, trial),
         Err(error) => put_error(error, trial),
     }
 }
@@ -112,4 +134,14 @@ pub fn page(case: &Value, trial: &mut Trial) -> Option<()> {
     let schema = schema_at(trial.alloc, case, "template")?;
     let rows = all_rows(trial.alloc, &schema, trial.list(case, "documents"))?;
     ask(&schema, rows.as_slice(), case, trial)
+}
+
+/// Whether a page ends too deep.
+pub fn depth(case: &Value, trial: &mut Trial) -> Option<()> {
+    let from = trial.number(case, "from").unsigned_abs();
+    let size = trial.number(case, "size").unsigned_abs();
+    trial.ok();
+    trial.flag(is_too_deep(from, size));
+    trial.close("}");
+    Some(())
 }
