@@ -8,6 +8,7 @@ mod columns;
 mod documents;
 mod fold_rows;
 mod hostile;
+mod questions;
 mod samples;
 mod segments;
 mod templates;
@@ -43,6 +44,7 @@ fn sum_of(alloc: Global, case: &str, size: u64) -> Result<u64> {
         "bulk" => bulks::run(alloc, rest, size),
         "hostile" => hostile::run(alloc, rest, size),
         "segment" => segments::run(alloc, rest, size),
+        "page" | "match" => questions::run(alloc, case, size),
         _ => packed(alloc, case, size),
     }
 }
