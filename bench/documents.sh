@@ -1,5 +1,5 @@
 #!/bin/sh
-# Documents of four members beside their time: read, typed, keyed, rebuilt and printed, in memory.
+# Documents of four members beside their time: read, typed, keyed, routed to a shard, rebuilt and printed, in memory.
 # Usage: bench/documents.sh PROGRAM [SIZE]; PROGRAM is what `rt run` in crates/tsds_bench built. Prints nanoseconds a document
 # for each stage: the least of three runs in processor time, less what the stages before it take.
 set -e
@@ -11,7 +11,7 @@ least() {
     done | sort -n | head -1
 }
 before=$(least documents-made)
-for stage in read typed keyed rebuilt printed; do
+for stage in read typed keyed routed rebuilt printed; do
     now=$(least "documents-$stage")
     echo "$stage $(echo "$before $now $size" | awk '{ printf "%.0f", ($2 - $1) * 1000000000 / $3 }') ns"
     before=$now

@@ -1,6 +1,7 @@
 //! Bulk requests of a thousand items, SIZE items in all: `bulk-path` reads the lines of bodies whose stream is the path's,
-//! `bulk-named` of those that name it; `bulk-built` builds the trees of replies to items that were created, and `bulk-printed`
-//! prints them too.
+//! `bulk-named` of those that name it, and `bulk-rows` makes the rows of bodies of generated documents; `bulk-built` builds the trees
+//! of replies to items that were created, and `bulk-printed` prints them too.
+use crate::bulk_rows;
 use anyhow::{Result, bail};
 use bulk_json::{BulkLines, NextItem};
 use edge_face::NoMemory;
@@ -96,6 +97,7 @@ pub fn run(alloc: Global, case: &str, size: u64) -> Result<u64> {
     match case {
         "path" => read(alloc, "{\"create\":{}}\n", Some("metrics"), size),
         "named" => read(alloc, "{\"create\":{\"_index\":\"metrics\"}}\n", None, size),
+        "rows" => bulk_rows::run(alloc, size),
         "built" => replied(alloc, false, size),
         "printed" => replied(alloc, true, size),
         _ => bail!("no such case"),

@@ -1,5 +1,5 @@
 //! Documents of four members beside their time, SIZE in all, of 10,000 texts over and over: `documents-made` makes the texts
-//! alone, `documents-read` reads each besides, `documents-typed` types it too, and so on to `documents-keyed`,
+//! alone, `documents-read` reads each besides, `documents-typed` types it too, and so on to `documents-keyed`, `documents-routed`,
 //! `documents-rebuilt` and `documents-printed`.
 ghost use Rattle.std.specs.Prelude.{◌≡◌, false};
 ghost use Rattle.ts_mapping.specs.Schemas.{IsTemplateSchema};
@@ -10,10 +10,13 @@ use json_walk::read_line;
 use reply_json::print;
 use row_cells::{Row, Schema};
 use series_id::series_key;
+use shard_route::shard_of;
 use std::alloc::Global;
 use synthetic_source::{rebuild, type_doc};
 
 const TEXTS: u32 = 10_000;
+
+const SHARDS: u32 = 4;
 
 /// What is done with a document, after all that stands before.
 #[derive(Clone, Copy, PartialEq, Eq)]
@@ -22,6 +25,7 @@ enum Stage {
     Read,
     Typed,
     Keyed,
+    Routed,
     Rebuilt,
     Printed,
 }
@@ -32,6 +36,7 @@ fn stage_of(case: &str) -> Option<Stage> {
         "read" => Some(Stage::Read),
         "typed" => Some(Stage::Typed),
         "keyed" => Some(Stage::Keyed),
+        "routed" => Some(Stage::Routed),
         "rebuilt" => Some(Stage::Rebuilt),
         "printed" => Some(Stage::Printed),
         _ => None,
@@ -66,6 +71,10 @@ fn taken(alloc: Global, schema: &Schema, stage: Stage, text: &str) -> Result<u64
     let key = series_key(alloc, schema, typed.cells.as_slice())?;
     if stage == Stage::Keyed {
         return Ok(key.bytes().len() as u64);
+    }
+    let shard = shard_of(&key, schema, SHARDS);
+    if stage == Stage::Routed {
+        return Ok(u64::from(shard));
     }
     let row = Row {
         key,

@@ -3,6 +3,7 @@
 #![tactic(auto)]
 
 mod blocks;
+mod bulk_rows;
 mod bulks;
 mod columns;
 mod documents;
