@@ -1,0 +1,17 @@
+pub mod Alike
+pub mod Answered
+pub mod Begun
+pub mod Counted
+pub mod Exchanged
+pub mod Joined
+pub mod Lodged
+pub mod Looked
+pub mod Many
+pub mod Nexts
+pub mod Ordered
+pub mod Outcomes
+pub mod Restored
+pub mod Routed
+pub mod Scanned
+pub mod Sealed
+pub mod Stable

@@ -1,0 +1,9 @@
+pub mod Answers
+pub mod Kept
+pub mod Limits
+pub mod Nexts
+pub mod Places
+pub mod Segments
+pub mod Shards
+pub mod Sound
+pub mod Spread
