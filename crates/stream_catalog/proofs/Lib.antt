@@ -32,3 +32,8 @@ mod NameLemmas
 mod NamedKeptLemmas
 mod FoundLemmas
 mod KeptRowLemmas
+mod PlaceLemmas
+mod FactChangeLemmas
+mod TakenLemmas
+mod MappedLemmas
+mod CreationLemmas

@@ -56,7 +56,7 @@ all_found name (x ∷ xs) ascend = (
 )
 
 -- what holds of each template holds of the one that a stream takes
-taken_is : (P : Template → Type 0) (name : List ℕ) (ts : List Template) (t : Template) → template_for name ts ≡ Some t → Each P ts → P t
+pub taken_is : (P : Template → Type 0) (name : List ℕ) (ts : List Template) (t : Template) → template_for name ts ≡ Some t → Each P ts → P t
 taken_is P name [] t found each = absurd (none_not_some found)
 taken_is P name (x ∷ xs) t found each = by_test (matches name x) found (λ u is. taken_is P name xs u is each.1)
   where

@@ -10,6 +10,9 @@ pub mod Moves
 pub mod Runs
 pub mod Puts
 pub mod Units
+pub mod FactChanges
+pub mod Places
+pub mod Mapped
 pub mod Sound
 pub mod FactTests
 pub mod Laws

@@ -1,5 +1,6 @@
 //! The laws that tie a plain catalogue to what is seen of it, for crates above.
 ghost use Rattle.stream_catalog.specs.Laws.{FoundIsSound, Keeps, LookupsStay, PutsKeepShowing, SoundShows, SeenAgain, FactsStay, ChangesGoThrough, RunsGoThrough, PutsGoThrough, RowTestsStay, SeriesStay, DownsamplesGoThrough, UnitsGoThrough, TasksKeep};
+ghost use Rattle.stream_catalog.specs.FactChanges.{ChangesTellFacts};
 ghost use Rattle.stream_catalog.specs.Laws.{FoundIsHeld, FoundAgree, UnitsGoOn, NamesKeep, UnitsEnd, UnitsCount, UnitsFinish, TaskRowsStay, FactsAreTested, NamesAreTested, RolloversJoin, RemovalsEndTasks};
 ghost use Rattle.stream_catalog.specs.Laws.{BlocksKeepSound, CreationsKeepSound, DeletionsKeepSound, DownsamplesKeepSound, LivesKeepSound, MovesKeepSound, PutsKeepSound, RolloversKeepSound, RunsKeepSound, StreamDeletionsKeepSound, TemplatesKeepSound, UnitsKeepSound};
 
@@ -38,6 +39,11 @@ pub fn changes_go_through()
     ensures shows { PutsKeepShowing }
     ensures downsamples { DownsamplesGoThrough }
     ensures units { UnitsGoThrough }
+{}
+
+/// What each change leaves of a catalogue's facts follows from its facts alone.
+pub fn changes_tell_facts()
+    ensures { ChangesTellFacts }
 {}
 
 /// What a task keeps of what is shown is what it keeps of all rows; and it keeps that whatever else is changed.
