@@ -2,6 +2,7 @@
 //! the answers, so that no work is left out.
 #![tactic(auto)]
 
+mod aggs;
 mod blocks;
 mod bulk_rows;
 mod bulks;
@@ -9,6 +10,7 @@ mod columns;
 mod documents;
 mod fold_rows;
 mod hostile;
+mod indices;
 mod questions;
 mod samples;
 mod segments;
@@ -39,11 +41,13 @@ fn sum_of(alloc: Global, case: &str, size: u64) -> Result<u64> {
         bail!("no such case");
     };
     match what {
+        "agg" => aggs::run(alloc, rest, size),
         "fold" => fold_rows::run(alloc, rest, size),
         "template" => templates::run(alloc, rest.parse()?, size),
         "documents" => documents::run(alloc, rest, size),
         "bulk" => bulks::run(alloc, rest, size),
         "hostile" => hostile::run(alloc, rest, size),
+        "index" => indices::run(alloc, rest, size),
         "segment" => segments::run(alloc, rest, size),
         "page" | "match" => questions::run(alloc, case, size),
         _ => packed(alloc, case, size),

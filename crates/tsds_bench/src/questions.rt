@@ -1,6 +1,6 @@
 //! Queries and pages over 1,000,000 rows of 100 series, SIZE times: `page-pass` goes over the times and keys of the rows, `page-ten`
-//! offers all to a page of ten without a sort, and `page-sorted` to one by falling values of the gauge; `match-term` tries a query
-//! for one host. With SIZE 0 the rows are made, and nothing else.
+//! offers all to a page of ten without a sort, `page-sorted` to one by falling values of the gauge, and `page-deep` to one of 10,000 by
+//! these; `match-term` tries a query for one host. With SIZE 0 the rows are made, and nothing else.
 
 use crate::samples::{rows_of, schema_of};
 use anyhow::{Result, bail};
@@ -25,10 +25,10 @@ fn pass(rows: &[Row]) -> u64 {
     sum
 }
 
-/// How many rows were offered, and how many are on the page.
-fn page(alloc: Global, schema: &Schema, rows: &[Row], sort: &str) -> Result<u64> {
+/// How many rows were offered, and how many are on a page of so many.
+fn page(alloc: Global, schema: &Schema, rows: &[Row], sort: &str, size: u64) -> Result<u64> {
     let sort = read_sort(alloc, &read_line(alloc, sort.as_bytes())?, schema)?;
-    let mut pager = Pager::new(alloc, sort, 0, 10)?;
+    let mut pager = Pager::new(alloc, sort, 0, size)?;
     for row in rows {
         pager.offer(alloc, 0, 0, schema, row)?;
     }
@@ -49,8 +49,9 @@ fn found(alloc: Global, schema: &Schema, rows: &[Row], query: &str) -> Result<u6
 fn asked(alloc: Global, schema: &Schema, rows: &[Row], case: &str) -> Result<u64> {
     match case {
         "page-pass" => Ok(pass(rows)),
-        "page-ten" => page(alloc, schema, rows, "[]"),
-        "page-sorted" => page(alloc, schema, rows, r#"{"cpu":"desc"}"#),
+        "page-ten" => page(alloc, schema, rows, "[]", 10),
+        "page-sorted" => page(alloc, schema, rows, r#"{"cpu":"desc"}"#, 10),
+        "page-deep" => page(alloc, schema, rows, r#"{"cpu":"desc"}"#, 10_000),
         "match-term" => found(alloc, schema, rows, r#"{"term":{"host":"h07"}}"#),
         _ => bail!("no such case"),
     }

@@ -60,7 +60,8 @@ pub fn text_of(alloc: Global, series: u32, turn: u32) -> Result<String> {
     Ok(text)
 }
 
-fn row_at(alloc: Global, schema: &Schema, series: u32, turn: u32) -> Result<Row>
+/// The row of that document.
+pub fn row_at(alloc: Global, schema: &Schema, series: u32, turn: u32) -> Result<Row>
     requires schema { IsTemplateSchema schema.now }
     requires raw { schema.now.folded ≡ false }
     ensures { IfOk result (IsRowOf schema.now) }

@@ -13,6 +13,7 @@ use Rattle.tsds_index.specs.declared.shard.Shard.{Shard}
 use Rattle.index_segment.specs.Held.{Held}
 use Rattle.tsds_index.specs.Kept.{AreSealed, AreShards}
 use Rattle.tsds_index.specs.Segments.{AreOfSchema}
+use Rattle.tsds_index.specs.Sealing.{put_at, with_row}
 use Rattle.tsds_index.specs.Shards.{IsShard, part_of, parts_of}
 use Rattle.tsds_index.specs.Sound.{AreOfShard, ArePartsFrom, IsPart, shard_for}
 use Rattle.tsds_index.specs.Spread.{Part, all_rows, no_part, rows_in}
@@ -92,6 +93,9 @@ module _ (schema : Schema) (shards : List Shard) (are : AreShards schema shards)
           };
           schemas = schemas_set schema shards i new are.schemas new_is.schemas;
         }
+
+    pub put_by_rule : (row : Row) → part_of new ≡ with_row row (part_of old) → parts_of (slice_set shards i new) ≡ put_at i row (parts_of shards)
+    put_by_rule row is = set_is ∙ ap (slice_set (parts_of shards) i) (is ∙ ap (with_row row) (sym (part_there shards i old within old_is)))
 
     pub same_rows : Alike (rows_in (part_of new)) (rows_in (part_of old)) → Alike (all_rows (parts_of (slice_set shards i new))) (all_rows (parts_of shards))
     same_rows alike =

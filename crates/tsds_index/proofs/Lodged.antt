@@ -1,23 +1,33 @@
 -- What an index answers, by the shard of a series.
-use Rattle.std.specs.Prelude.{◌≡◌, ℕ, ℤ, ◌<◌, Bool, Option, List, length}
+use Rattle.std.specs.Prelude.{◌≡◌, ℕ, ℤ, ◌<◌, ◌≤◌, ◌^◌, Bool, Option, List, length}
 use Rattle.std.proofs.Common.{refl, ap, sym, subst, ◌∙◌, arith, get_or}
 use Rattle.std.proofs.lemmas.List.{length-map}
 use Rattle.row_cells.specs.declared.rows.Row.{Row}
 use Rattle.row_cells.specs.declared.schemas.Schema.{Schema}
-use Rattle.row_cells.specs.PlaceLaws.{has_place-in_row_order}
+use Rattle.row_cells.specs.Limits.{most_documents}
+use Rattle.row_cells.specs.PlaceLaws.{has_place-in_row_order, length-in_row_order}
 use Rattle.row_cells.specs.OrderLaws.{documents-in_row_order}
 use Rattle.row_cells.specs.RowLists.{AreDistinct, documents, has_place, in_row_order}
-use Rattle.index_segment.specs.Looks.{is_within, rows_within}
+use Rattle.fold_law.specs.declared.measures.Gauge.{Gauge}
+use Rattle.fold_law.specs.Gauges.{reach_of_gauge}
+use Rattle.fold_law.specs.Laws.{reach_of_items}
+use Rattle.row_cells.specs.Each.{Each}
+use Rattle.row_cells.specs.KeyedRows.{AreRowsOf}
+use Rattle.index_segment.specs.SeriesLaws.{range_of_rows}
+use Rattle.index_segment.specs.Looks.{IsGaugeAt, gauge_at, gauge_of, is_within, rows_within}
 use Rattle.shard_route.specs.Routing.{shard_of_key}
 use Rattle.tsds_index.specs.declared.shard.Shard.{Shard}
 use Rattle.tsds_index.specs.Answers.{row_at}
 use Rattle.tsds_index.specs.Kept.{AreShards, spread_of}
-use Rattle.tsds_index.specs.Shards.{part_of, parts_of}
+use Rattle.tsds_index.specs.Shards.{IsShard, part_of, parts_of}
 use Rattle.tsds_index.specs.Sound.{IsSpread, shard_for}
 use Rattle.tsds_index.specs.Spread.{Spread, all_rows, part_at, rows_in, rows_of}
 use Rattle.tsds_index.proofs.Alike.{Alike}
-use Rattle.tsds_index.proofs.Answered.{distinct-filter, place_in_part, range_in_part, row_in_part}
+use Rattle.tsds_index.proofs.Answered.{are_rows, distinct-filter, place_in_part, range_in_part, row_in_part}
+use Rattle.tsds_index.proofs.Counted.{length_documents}
 use Rattle.tsds_index.proofs.Exchanged.{part_there, shard_is}
+use Rattle.tsds_index.proofs.Gauged.{gauge_fields, rows_have_room, sorted_gauge}
+use Rattle.tsds_index.proofs.Joined.{part_each}
 
 -- ---- the view of an index
 
@@ -72,3 +82,39 @@ module _ (schema : Schema) (shards : List Shard) (are : AreShards schema shards)
       ∙ (ap (λ a. in_row_order (rows_within key a t (rows_in (part_of old)))) from_is
       ∙ (ap (λ b. in_row_order (rows_within key from b (rows_in (part_of old)))) to_is
       ∙ (ap (λ rs. in_row_order (rows_within key from to rs)) (sym here) ∙ sym (range_in_part h sound key i i_is within from to)))))
+
+  -- they are rows of an index again
+  pub range_known : (from to f t : ℤ) (rows sorted : List Row) → f ≡ from → t ≡ to → rows ≡ rows_within key f t (rows_in (part_of old)) → sorted ≡ in_row_order rows → AreRowsOf h.schema sorted
+  range_known from to f t rows sorted from_is to_is is sorted_is =
+      subst (AreRowsOf h.schema) (sym (range_told from to f t rows sorted from_is to_is is sorted_is)) (range_of_rows h.schema key from to (rows_of h) (are_rows h sound))
+
+  here_is : IsShard schema old
+  here_is = shard_is schema shards are i (inside schema shards h i view within) old old_is
+
+  -- how many they are
+  pub count_told : (from to f t : ℤ) (n : ℕ) → f ≡ from → t ≡ to → n ≡ length (rows_within key f t (rows_in (part_of old))) → n ≡ length (rows_within key from to (rows_of h))
+  count_told from to f t n from_is to_is is =
+      is ∙ (ap (λ a. length (rows_within key a t (rows_in (part_of old)))) from_is
+      ∙ (ap (λ b. length (rows_within key from b (rows_in (part_of old)))) to_is
+      ∙ (ap (λ rs. length (rows_within key from to rs)) (sym here)
+      ∙ (sym (length-in_row_order (rows_within key from to (rows_in (part_at h i)))) ∙ ap length (sym (range_in_part h sound key i i_is within from to))))))
+
+  pub count_few : length (rows_in (part_of old)) ≤ most_documents
+  count_few = omega (arith, here_is.few, length_documents schema (rows_in (part_of old)) (part_each schema (part_of old) here_is.part))
+
+  module _ (field : ℕ) (field_is : IsGaugeAt h.schema.fields field) where
+    there : IsGaugeAt schema.fields field
+    there = subst (λ (s : Spread). IsGaugeAt s.schema.fields field) (sym view) field_is
+
+    pub fields_told : Each (λ segment. IsGaugeAt segment.schema.fields field) old.sealed.items
+    fields_told = gauge_fields schema field old.sealed.items there here_is.schemas
+
+    pub room_told : reach_of_items reach_of_gauge (gauge_at field) (rows_in (part_of old)) ≤ 2 ^ 120
+    room_told = rows_have_room schema field (rows_in (part_of old)) there (part_each schema (part_of old) here_is.part) here_is.few
+
+    pub gauge_told : (from to f t : ℤ) (g : Gauge) → f ≡ from → t ≡ to → g ≡ gauge_of field (rows_within key f t (rows_in (part_of old))) → g ≡ gauge_of field (rows_within key from to (rows_of h))
+    gauge_told from to f t g from_is to_is is =
+        is ∙ (ap (λ a. gauge_of field (rows_within key a t (rows_in (part_of old)))) from_is
+        ∙ (ap (λ b. gauge_of field (rows_within key from b (rows_in (part_of old)))) to_is
+        ∙ (sym (sorted_gauge field (rows_within key from to (rows_in (part_of old))))
+        ∙ ap (gauge_of field) (ap (λ rs. in_row_order (rows_within key from to rs)) (sym here) ∙ sym (range_in_part h sound key i i_is within from to)))))

@@ -27,14 +27,14 @@ use Rattle.tsds_index.specs.Sound.{IsSpread}
 use Rattle.tsds_index.specs.Spread.{Spread, all_rows, rows_of}
 use Rattle.tsds_index.proofs.Answered.{are_rows}
 
-key_chain : (a b c : List ℕ) → IsUpToKey a b → IsUpToKey b c → IsUpToKey a c
+pub key_chain : (a b c : List ℕ) → IsUpToKey a b → IsUpToKey b c → IsUpToKey a c
 key_chain = upto nat_list_cmp_total
 
 among_each : (P : Row → Type 0) (r : Row) (rows : List Row) → Each P rows → IsAmong r rows → P r
 among_each P r [] each among = absurd among
 among_each P r (x ∷ rows) each among = elim among [ inl here ↦ subst P here each.0 | inr there ↦ among_each P r rows each.1 there ]
 
-both_ways_off : (b : Bool) → b ≡ true → b ≡ false → ⊥
+pub both_ways_off : (b : Bool) → b ≡ true → b ≡ false → ⊥
 both_ways_off true yes_is no_is = cc
 both_ways_off false yes_is no_is = cc
 
@@ -109,7 +109,7 @@ next_sorted before rows (Some k) next =
 
 -- ---- rows in row order
 
-key_upto : (a b : Row) → row_cmp a b ≡ Less → IsUpToKey a.key b.key
+pub key_upto : (a b : Row) → row_cmp a b ≡ Less → IsUpToKey a.key b.key
 key_upto a b less = elim (upto_cases a b (upto_of_le a b Less less refl)) [
   | inl before ↦ ap is_gt before
   | inr both ↦ subst (IsUpToKey a.key) both.0 (ap is_gt (exact_itself a.key))

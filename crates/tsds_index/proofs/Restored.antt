@@ -1,5 +1,5 @@
 -- An index of segments, one for each shard.
-use Rattle.std.specs.Prelude.{◌≡◌, ℕ, suc, ◌+◌, ◌≤◌, List, [], ◌∷◌, length, map}
+use Rattle.std.specs.Prelude.{◌≡◌, ℕ, suc, ◌+◌, ◌≤◌, true, false, List, [], ◌∷◌, length, map}
 use Rattle.std.proofs.Common.{refl, ap, sym, subst, ◌∙◌, arith}
 use Rattle.std.proofs.lemmas.List.{length-append, length-map}
 use Rattle.row_cells.specs.declared.rows.Row.{Row}
@@ -7,16 +7,17 @@ use Rattle.row_cells.specs.declared.schemas.Schema.{Schema}
 use Rattle.row_cells.specs.Each.{Each}
 use Rattle.row_cells.specs.KeyedRows.{AreRowsOf, IsRowOf}
 use Rattle.row_cells.specs.Limits.{most_documents}
-use Rattle.row_cells.specs.PlaceLaws.{each_append, in_order-distinct}
+use Rattle.row_cells.specs.PlaceLaws.{documents-append, each_append, in_order-distinct}
 use Rattle.row_cells.specs.RowLists.{documents}
 use Rattle.index_segment.specs.Held.{Held}
+use Rattle.shard_route.specs.Routing.{shard_of_key}
 use Rattle.tsds_index.specs.declared.shard.Shard.{Shard}
 use Rattle.tsds_index.specs.Answers.{AreRoutedFrom, restored}
 use Rattle.tsds_index.specs.Kept.{IsKept}
 use Rattle.tsds_index.specs.Limits.{most_shards}
 use Rattle.tsds_index.specs.Segments.{AreOfSchema, lists_in}
 use Rattle.tsds_index.specs.Shards.{parts_of}
-use Rattle.tsds_index.specs.Sound.{ArePartsFrom, IsRouted}
+use Rattle.tsds_index.specs.Sound.{ArePartsFrom, IsRouted, shard_for}
 use Rattle.tsds_index.specs.Spread.{all_rows}
 use Rattle.tsds_index.proofs.Counted.{length_documents}
 
@@ -98,3 +99,17 @@ pub count_more : (g : Held) (rest left : List Held) (total n all : ℕ) → left
 count_more g rest left total n all left_is n_is before =
     let here : length (all_rows (restored (lists_in left))) ≡ length g.rows + length (all_rows (restored (lists_in rest))) = ap (λ gs. length (all_rows (restored (lists_in gs)))) left_is ∙ length-append g.rows (all_rows (restored (lists_in rest))) in
     omega (arith, here, n_is, before)
+
+-- ---- whether segments are restorable
+
+pub never : {P : Type 0} → false ≡ true → P
+never is = cc
+
+pub total_more : (g : Held) (rest left : List Held) (total n all : ℕ) → left ≡ g ∷ rest → n ≡ documents g.rows → total + documents (all_rows (restored (lists_in left))) ≡ all → (total + n) + documents (all_rows (restored (lists_in rest))) ≡ all
+total_more g rest left total n all left_is n_is before =
+    let here : documents (all_rows (restored (lists_in left))) ≡ documents g.rows + documents (all_rows (restored (lists_in rest))) = ap (λ gs. documents (all_rows (restored (lists_in gs)))) left_is ∙ documents-append g.rows (all_rows (restored (lists_in rest))) in
+    omega (arith, here, n_is, before)
+
+pub shard_told : (schema : Schema) (shards : ℕ) (key k : List ℕ) (r : ℕ) → r ≡ shard_of_key schema key shards → key ≡ k → r ≡ shard_for schema shards k
+unfolding shard_for
+shard_told schema shards key k r is key_is = is ∙ ap (λ j. shard_of_key schema j shards) key_is

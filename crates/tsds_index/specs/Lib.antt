@@ -3,7 +3,11 @@ pub mod Kept
 pub mod Limits
 pub mod Nexts
 pub mod Places
+pub mod Ranges
+pub mod Sealing
 pub mod Segments
 pub mod Shards
 pub mod Sound
 pub mod Spread
+pub mod SpreadLaws
+pub mod Walks

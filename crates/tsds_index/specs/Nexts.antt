@@ -1,5 +1,5 @@
 -- Keys of series behind another.
-use Rattle.std.specs.Prelude.{◌≡◌, ℕ, true, false, if◌then◌else◌, Option, Some, None, List, [], ◌∷◌}
+use Rattle.std.specs.Prelude.{◌≡◌, ℕ, true, false, if◌then◌else◌, Option, Some, None, List, [], ◌∷◌, filter}
 use Rattle.std.specs.Cmp.Lexicographic.{slice_cmp}
 use Rattle.std.specs.Ordering.{is_gt, is_le, nat_cmp}
 use Rattle.row_cells.specs.declared.rows.Row.{Row}
@@ -26,3 +26,7 @@ IsUpToKey k j = is_gt (slice_cmp nat_cmp k j) ≡ false
 abbrev pub IsNext : Option (List ℕ) → List Row → Option (List ℕ) → Type 0
 IsNext before rows None = Each (λ r. is_behind before r.key ≡ false) rows
 IsNext before rows (Some k) = (is_behind before k ≡ true) × ((r : Row) × IsAmong r rows × (r.key ≡ k)) × Each (λ r. is_behind before r.key ≡ true → IsUpToKey k r.key) rows
+
+-- the keys behind another, or all
+abbrev pub keys_behind : Option (List ℕ) → List (List ℕ) → List (List ℕ)
+keys_behind before keys = filter (is_behind before) keys

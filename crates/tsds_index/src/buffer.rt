@@ -1,5 +1,5 @@
 //! The write buffer of a shard: rows that aren't sealed yet, in row order.
-ghost use Rattle.std.specs.Prelude.{◌≡◌, ◌+◌, ◌<◌, ◌≤◌, [], false, length, take, drop, OnOk, OnErr};
+ghost use Rattle.std.specs.Prelude.{◌≡◌, ◌+◌, ◌<◌, ◌≤◌, [], false, length, nat_le, take, drop, OnOk, OnErr};
 ghost use Rattle.std.specs.List.{insert as inserted};
 ghost use Rattle.std.specs.Option.{option_copied};
 ghost use Rattle.std.specs.declared.cmp.Ordering.TheVariants.{Less};
@@ -100,6 +100,13 @@ impl Buffer {
         self.rows.as_slice()
     }
 
+    /// Whether no row more is let in.
+    pub fn is_full(&self) -> bool
+        ensures { result ≡ nat_le longest_buffer (length self.now) }
+    {
+        self.rows.len() >= LONGEST_BUFFER
+    }
+
     /// The row of a series and a time.
     pub fn find(&self, key: &Key, time: i64) -> Option<&Row>
         ensures { option_copied result ≡ row_at key.now time self.now }
@@ -126,9 +133,10 @@ impl Buffer {
         Ok(())
     }
 
-    pub fn clear(&mut self)
+    /// Lets all rows go, and the memory of their list.
+    pub fn clear(&mut self, alloc: Global)
         ensures { self.new ≡ [] }
     {
-        self.rows.clear();
+        self.rows = Vec::new(alloc);
     }
 }

@@ -3,8 +3,10 @@ ghost use Rattle.std.specs.Prelude.{◌≡◌, ◌↔◌, ◌+◌, ◌<◌, ◌�
 ghost use Rattle.row_cells.specs.KeyedRows.{AreRowsOf, IsRowOf};
 ghost use Rattle.row_cells.specs.Limits.{most_documents};
 ghost use Rattle.row_cells.specs.RowLists.{documents, has_place, insert_row};
+ghost use Rattle.index_segment.specs.Directory.{keys_of};
 ghost use Rattle.tsds_index.specs.Answers.{IsPut, IsRefusal, Keeps};
 ghost use Rattle.tsds_index.specs.Limits.{most_shards};
+ghost use Rattle.tsds_index.specs.Sealing.{parts_with};
 ghost use Rattle.tsds_index.specs.Sound.{IsRouted, IsSpread, shard_for};
 ghost use Rattle.tsds_index.specs.Spread.{no_part, rows_of};
 
@@ -67,6 +69,7 @@ impl TsdsIndex {
     pub fn holds(&self)
         ensures spread { IsSpread self.now }
         ensures rows { AreRowsOf self.now.schema (rows_of self.now) }
+        ensures series { length (keys_of (rows_of self.now)) ≤ most_documents }
     {
         let _rows = self.rows;
     }
@@ -76,6 +79,13 @@ impl TsdsIndex {
         ensures { result ≡ length (rows_of self.now) }
     {
         self.rows
+    }
+
+    /// How many shards there are: 1 to 64.
+    pub fn shard_count(&self) -> u32
+        ensures { result ≡ length self.now.parts }
+    {
+        self.shards.len() as u32
     }
 
     /// The shard of a series.
@@ -101,6 +111,7 @@ impl TsdsIndex {
         requires room { length (rows_of self.old) < most_documents }
         ensures kept { Keeps self.old self.new }
         ensures put { OnOk result (rows_of self.new ≡ insert_row row.now (rows_of self.old)) }
+        ensures parts { OnOk result (self.new.parts ≡ parts_with row.now self.old) }
         ensures refused { OnErr result (rows_of self.new ≡ rows_of self.old) }
     {
         let shard = self.shard_at(&row.key);
@@ -111,14 +122,17 @@ impl TsdsIndex {
     }
 
     /// Puts a row. The answer is `Duplicate` exactly where a row of its series and time was put, and else `Full` exactly
-    /// where `MOST_DOCUMENTS` rows are there. No refusal changes the rows.
+    /// where `MOST_DOCUMENTS` rows are there; both leave all as it is. No refusal changes the rows. The row goes to the write buffer of its shard; a
+    /// full one is sealed before, together with the newest segments that have fewer than twice the rows behind them.
     pub fn put(&mut self, alloc: Global, row: &Row) -> Result<(), PutError>
         requires row { IsRowOf self.old.schema row.now }
         requires few { self.old.schema.folded ≡ true → documents (rows_of self.old) + row.now.count ≤ most_documents }
         ensures kept { Keeps self.old self.new }
         ensures put { OnOk result (IsPut row.now self.old self.new) }
+        ensures parts { OnOk result (self.new.parts ≡ parts_with row.now self.old) }
         ensures refused { IfErr result (λ error. IsRefusal row.now (rows_of self.old) error) }
         ensures same { OnErr result (rows_of self.new ≡ rows_of self.old) }
+        ensures untouched { IfErr result (λ error. (error ≡ PutError.NoMemory → ⊥) → self.new ≡ self.old) }
     {
         self.holds();
         if self.has(&row.key, row.time) {

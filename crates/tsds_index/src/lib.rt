@@ -3,11 +3,15 @@
 #![tactic(auto)]
 
 mod buffer;
+mod counts;
+mod folds;
+mod gauges;
 mod index;
 mod looks;
 mod ordering;
 mod reads;
 mod refusal;
+mod restorable;
 mod restoring;
 mod scans;
 mod sealing;
@@ -15,6 +19,8 @@ mod seals;
 mod series;
 mod shard;
 mod shards;
+mod walk;
 
 pub use index::TsdsIndex;
 pub use refusal::PutError;
+pub use walk::SeriesWalk;

@@ -16,21 +16,12 @@ pub fn stands_within(row: &Row, key: &Key, from: i64, to: i64) -> bool
     row.key == *key && from <= row.time && row.time < to
 }
 
-/// Copies the rows of a range to the end of others.
-pub fn copy_within(
-    alloc: Global,
-    rows: &[Row],
-    key: &Key,
-    from: i64,
-    to: i64,
-    into: &mut Vec<Row>,
-) -> Result<(), NoMemory>
-    ensures { OnOk result (into.new.items ≡ into.old.items ++ rows_within key.now from to rows.now) }
+/// Copies rows to the end of others.
+pub fn copy_rows(alloc: Global, rows: &[Row], into: &mut Vec<Row>) -> Result<(), NoMemory>
+    ensures { OnOk result (into.new.items ≡ into.old.items ++ rows.now) }
 {
     for row in rows {
-        if stands_within(row, key, from, to) {
-            into.push(copy_row(alloc, row)?)?;
-        }
+        into.push(copy_row(alloc, row)?)?;
     }
     Ok(())
 }

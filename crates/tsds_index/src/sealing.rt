@@ -1,9 +1,10 @@
 //! Segments and rows of a buffer made one segment.
-ghost use Rattle.std.specs.Prelude.{◌≡◌, ◌+◌, ◌≤◌, ◌++◌, ◌∷◌, [], length, take, IfOk, OnOk, OnErr};
+ghost use Rattle.std.specs.Prelude.{◌≡◌, ◌+◌, ◌-◌, ◌^◌, ◌≤◌, ◌++◌, ◌∷◌, [], length, reverse, take, IfOk, OnOk, OnErr};
 ghost use Rattle.row_cells.specs.KeyedRows.{AreRowsOf};
 ghost use Rattle.row_cells.specs.Limits.{most_documents};
 ghost use Rattle.row_cells.specs.Mapped.{IsMapped};
 ghost use Rattle.row_cells.specs.RowLists.{AreDistinct, documents, in_row_order};
+ghost use Rattle.tsds_index.specs.Sealing.{is_joined as is_joined_to, joined_count};
 ghost use Rattle.tsds_index.specs.Segments.{AreOfSchema, lists_in};
 ghost use Rattle.tsds_index.specs.Spread.{newest_first};
 
@@ -12,22 +13,30 @@ use index_segment::Segment;
 use row_cells::{Row, Schema};
 use std::alloc::Global;
 
+/// Whether a segment is joined to newer rows: it has fewer than twice as many.
+fn is_joined(older: usize, newer: usize) -> bool
+    ensures { result ≡ is_joined_to older newer }
+{
+    older / 2 < newer
+}
+
 /// From which segment on they are joined to so many rows: each that has fewer than twice the rows behind it. So each
 /// segment has at least twice the rows of the next one, and a row is written again once for each doubling at most.
 pub fn place_to_join(segments: &[Segment], rows: usize) -> usize
-    ensures { result ≤ length segments.now }
+    requires few { rows + length (newest_first (lists_in segments.now)) ≤ 2 ^ 32 }
+    ensures within { result ≤ length segments.now }
+    ensures rule { result ≡ length segments.now - joined_count rows (reverse (lists_in segments.now)) }
 {
-    let mut place = segments.len();
+    let mut left = segments;
     let mut size = rows;
-    while place > 0 {
-        let older = segments[place - 1].len();
-        if older / 2 >= size {
-            return place;
+    while let Some((older, rest)) = left.split_last() {
+        if !is_joined(older.len(), size) {
+            return left.len();
         }
-        size = size.saturating_add(older);
-        place -= 1;
+        size += older.len();
+        left = rest;
     }
-    place
+    0
 }
 
 /// One segment of rows and of segments, which have no series and time in common. The newest are joined first, as they

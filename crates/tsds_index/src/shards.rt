@@ -7,6 +7,7 @@ ghost use Rattle.row_cells.specs.RowLists.{documents, has_place, in_row_order, i
 ghost use Rattle.tsds_index.specs.Kept.{AreSealed, AreShards};
 ghost use Rattle.std.specs.Option.{option_copied};
 ghost use Rattle.tsds_index.specs.Nexts.{IsNext};
+ghost use Rattle.tsds_index.specs.Sealing.{put_at};
 ghost use Rattle.tsds_index.specs.Shards.{parts_of};
 ghost use Rattle.tsds_index.specs.Sound.{shard_for};
 ghost use Rattle.tsds_index.specs.Spread.{all_rows, no_part};
@@ -50,6 +51,7 @@ pub fn put_in(
     ensures as_many { length shards.new.items ≡ length shards.old.items }
     ensures ok { OnOk result (in_row_order (all_rows (parts_of shards.new.items)) ≡ insert_row row (in_row_order (all_rows (parts_of shards.old.items)))) }
     ensures err { OnErr result (in_row_order (all_rows (parts_of shards.new.items)) ≡ in_row_order (all_rows (parts_of shards.old.items))) }
+    ensures part { OnOk result (parts_of shards.new.items ≡ put_at shard row (parts_of shards.old.items)) }
 {
     let one = &mut shards[shard];
     one.put(alloc, schema, row)?;
@@ -72,20 +74,16 @@ pub fn seal_all(alloc: Global, schema: &Schema, shards: &mut Vec<Shard>) -> Resu
 }
 
 /// The least key of a series behind another.
-pub fn next_of(
-    alloc: Global,
-    shards: &[Shard],
-    before: Option<&Key>,
-) -> Result<Option<Key>, NoMemory>
-    ensures { IfOk result (λ next. IsNext (option_copied before.entry) (all_rows (parts_of shards.now)) next) }
+pub fn next_of<'a>(shards: &'a [Shard], before: Option<&Key>) -> Option<&'a Key>
+    ensures { IsNext (option_copied before.entry) (all_rows (parts_of shards.now)) (option_copied result) }
 {
     let mut least = None;
     let mut left = shards;
     while let Some((shard, rest)) = left.split_first() {
-        let next = shard.series_after(alloc, before)?;
+        let next = shard.key_behind(before);
         let lower = lesser(least, next);
         least = lower;
         left = rest;
     }
-    Ok(least)
+    least
 }

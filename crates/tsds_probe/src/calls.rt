@@ -2,6 +2,7 @@
 use probe_case::Trial;
 use probe_columns::answer_columns;
 use probe_devices::answer_devices;
+use probe_index::answer_index;
 use probe_questions::answer_questions;
 use probe_rows::answer_rows;
 use probe_segments::answer_segments;
@@ -16,6 +17,7 @@ pub fn answer(case: &Value, trial: &mut Trial) {
         || answer_columns(call, case, trial)
         || answer_devices(call, case, trial)
         || answer_questions(call, case, trial)
+        || answer_index(call, case, trial)
         || answer_segments(call, case, trial);
     trial.need(is_made);
 }

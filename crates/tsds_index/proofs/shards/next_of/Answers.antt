@@ -14,12 +14,12 @@ loop-shard-preserved c =
     let before = option_copied c.args.before in
     let rest = all_rows (parts_of c.in-Some.rest.now) in
     subst (λ (n : Option (List ℕ)). LookedAt before (all_rows (parts_of c.args.shards.now)) n rest) (sym c.lesser-lower.ensures)
-    (look_more before (all_rows (parts_of c.args.shards.now)) (rows_in (part_of c.in-Some.shard.now)) (all_rows (parts_of c.loop-shard.left.now)) rest c.loop-shard.least c.in_ok-next.next
-    (ap (λ (ss : List Shard). all_rows (parts_of ss)) c.in-Some.ensures.cases.0) c.in_ok-next.ensures c.loop-shard.invariant)
+    (look_more before (all_rows (parts_of c.args.shards.now)) (rows_in (part_of c.in-Some.shard.now)) (all_rows (parts_of c.loop-shard.left.now)) rest (option_copied c.loop-shard.least) (option_copied c.key_behind-next.result)
+    (ap (λ (ss : List Shard). all_rows (parts_of ss)) c.in-Some.ensures.cases.0) c.key_behind-next.ensures c.loop-shard.invariant)
 
 none_left : (left : List Shard) → length left ≡ 0 → all_rows (parts_of left) ≡ []
 none_left [] is = refl
 none_left (x ∷ xs) is = absurd (omega (arith, is))
 
 pub returns : goal.returns
-returns c = look_ended (option_copied c.args.before) (all_rows (parts_of c.args.shards.now)) (all_rows (parts_of c.loop-shard.left.now)) c.loop-shard.least (none_left c.loop-shard.left.now c.in_default.ensures.cases) c.loop-shard.invariant
+returns c = look_ended (option_copied c.args.before) (all_rows (parts_of c.args.shards.now)) (all_rows (parts_of c.loop-shard.left.now)) (option_copied c.loop-shard.least) (none_left c.loop-shard.left.now c.in_default.ensures.cases) c.loop-shard.invariant

@@ -2,7 +2,7 @@ use Rattle.std.proofs.Common.{ap, sym, ◌∙◌}
 use Rattle.std.proofs.lemmas.List.{length-map}
 use Rattle.tsds_index.specs.Shards.{part_of}
 use Rattle.tsds_index.specs.Sound.{shard_for}
-use Rattle.tsds_index.proofs.Exchanged.{more_rows, more_shards, row_few, row_free, same_rows, same_shards, shard_is}
+use Rattle.tsds_index.proofs.Exchanged.{more_rows, more_shards, put_by_rule, row_few, row_free, same_rows, same_shards, shard_is}
 use Rattle.tsds_index.proofs.Outcomes.{on_err}
 use Rattle.tsds_index.proofs.shards.put_in.Goals as goal
 
@@ -27,3 +27,6 @@ returns-clause-shards c =
 
 pub returns-clause-ok : goal.returns-clause-ok
 returns-clause-ok c = more_rows c.args.schema.now c.args.shards.now.items c.requires.shards c.args.shard c.requires.within c.index_mut-one.result.now c.index_mut-one.ensures.value c.put.new.self c.put.ensures.shard c.args.row c.in_ok-put.ensures.ok c.requires.free
+
+pub returns-clause-part : goal.returns-clause-part
+returns-clause-part c = put_by_rule c.args.schema.now c.args.shards.now.items c.requires.shards c.args.shard c.requires.within c.index_mut-one.result.now c.index_mut-one.ensures.value c.put.new.self c.put.ensures.shard c.args.row c.in_ok-put.ensures.part

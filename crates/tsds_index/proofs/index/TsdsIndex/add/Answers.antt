@@ -3,8 +3,10 @@ use Rattle.row_cells.specs.declared.rows.Row.{Row}
 use Rattle.row_cells.specs.Limits.{most_documents}
 use Rattle.row_cells.specs.RowLists.{documents, has_place, in_row_order, insert_row}
 use Rattle.tsds_index.specs.Kept.{spread_of}
+use Rattle.tsds_index.specs.Sealing.{put_at}
 use Rattle.tsds_index.specs.Shards.{parts_of}
-use Rattle.tsds_index.specs.Spread.{all_rows, rows_of}
+use Rattle.tsds_index.specs.Sound.{shard_for}
+use Rattle.tsds_index.specs.Spread.{Spread, all_rows, rows_of}
 use Rattle.tsds_index.proofs.Alike.{alike_length}
 use Rattle.tsds_index.proofs.Answered.{rows_length}
 use Rattle.tsds_index.proofs.Lodged.{documents_told, places_told, rows_same, rows_told}
@@ -49,3 +51,11 @@ returns-clause-put c =
     ∙ (c.in_ok-put_in.ensures.ok
     ∙ (ap (λ (row : Row). insert_row row (in_row_order (all_rows (parts_of c.self.inside.shards.items)))) c.in_ok-row.ensures
     ∙ ap (insert_row c.args.row.now) (sym (rows_told c.self.inside.schema c.self.inside.shards.items c.args.self.now c.self.view_is))))
+
+pub returns-clause-parts : goal.returns-clause-parts
+returns-clause-parts c =
+    let number = shard_for c.args.self.now.schema (length c.args.self.now.parts) c.args.row.now.key in
+    c.in_ok-put_in.ensures.part
+    ∙ (ap (λ i. put_at i c.in_ok-row.row (parts_of c.self.inside.shards.items)) c.shard_at-shard.ensures.is
+    ∙ (ap (λ (row : Row). put_at number row (parts_of c.self.inside.shards.items)) c.in_ok-row.ensures
+    ∙ ap (λ (h : Spread). put_at number c.args.row.now h.parts) c.self.view_is))

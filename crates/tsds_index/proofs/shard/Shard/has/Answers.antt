@@ -1,7 +1,5 @@
-use Rattle.std.proofs.Common.{ap, to_z, of_z, w64}
+use Rattle.std.proofs.Common.{refl, to_z, of_z, w64}
 use Rattle.std.proofs.lemmas.Int.{to_z-of_z}
-use Rattle.index_segment.specs.Held.{Held}
-use Rattle.std.specs.Prelude.{List}
 use Rattle.tsds_index.specs.Segments.{lists_in}
 use Rattle.tsds_index.specs.Spread.{newest_first}
 use Rattle.tsds_index.proofs.Looked.{has_behind, has_front}
@@ -15,4 +13,4 @@ returns-in-Some c =
 pub returns-in-None : goal.returns-in-None
 returns-in-None c =
     let shard = c.args.self.now in
-    has_behind c.args.key.now c.args.time (to_z w64 (of_z w64 c.args.time)) (to_z-of_z w64 c.args.time c.ranges.time) shard.buffer (newest_first (lists_in c.as_slice.result.now)) (newest_first (lists_in shard.sealed.items)) c.has_sealed.result c.in-None.ensures (ap (λ (hs : List Held). newest_first (lists_in hs)) c.as_slice.ensures.value) c.has_sealed.ensures
+    has_behind c.args.key.now c.args.time (to_z w64 (of_z w64 c.args.time)) (to_z-of_z w64 c.args.time c.ranges.time) shard.buffer (newest_first (lists_in shard.sealed.items)) (newest_first (lists_in shard.sealed.items)) c.has_sealed.result c.in-None.ensures refl c.has_sealed.ensures
