@@ -2,7 +2,7 @@
 ghost use Rattle.row_cells.specs.Mapped.{IsMapped};
 
 use crate::segments::{bytes_at, schema_of};
-use crate::{looks, merges, places, series, sweeps};
+use crate::{joins, looks, merges, places, series, sweeps};
 use index_segment::{Segment, SegmentError};
 use probe_case::Trial;
 use row_cells::Schema;
@@ -89,6 +89,7 @@ fn on_case(call: &str, case: &Value, trial: &mut Trial) -> Option<bool> {
 pub fn answer_segments(call: &str, case: &Value, trial: &mut Trial) -> bool {
     match call {
         "merge" => merges::merge(case, trial).is_some(),
+        "merge_all" => joins::merge_all(case, trial).is_some(),
         "damaged_segment" => sweeps::damage(case, trial).is_some(),
         _ => on_case(call, case, trial) == Some(true),
     }

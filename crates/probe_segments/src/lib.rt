@@ -2,6 +2,7 @@
 #![tactic(auto)]
 
 mod calls;
+mod joins;
 mod looks;
 mod merges;
 mod places;

@@ -38,7 +38,7 @@ fn is_apart_from_all(row: &Row, others: &[Row]) -> bool
 }
 
 /// Whether no rows of two lists are of one series and time.
-fn are_apart(rows: &[Row], others: &[Row]) -> bool
+pub fn are_apart(rows: &[Row], others: &[Row]) -> bool
     ensures { IsTrue result → AreApart rows.now others.now }
 {
     for row in rows {
@@ -123,7 +123,8 @@ fn put_merged(merged: &[u8], wanted: &[u8], trial: &mut Trial) {
     trial.close("}}");
 }
 
-fn compare(schema: &Schema, merged: &[u8], case: &Value, trial: &mut Trial) -> Option<()>
+/// Says of merged bytes what there is to say beside the segment of all documents of a case.
+pub fn compare(schema: &Schema, merged: &[u8], case: &Value, trial: &mut Trial) -> Option<()>
     requires schema { IsTemplateSchema schema.now }
     requires raw { schema.now.folded ≡ false }
 {
