@@ -1,5 +1,5 @@
 -- Rows offered in any order.
-use Rattle.std.specs.Prelude.{◌≡◌, ℕ, suc, List, [], ◌∷◌, ◌++◌, length, map, take, drop}
+use Rattle.std.specs.Prelude.{◌≡◌, suc, List, [], ◌∷◌, ◌++◌, length, map, take, drop}
 use Rattle.std.specs.Ordering.{int_cmp, ordering_then}
 use Rattle.std.specs.declared.cmp.Ordering.{Ordering}
 use Rattle.std.specs.declared.cmp.Ordering.TheVariants.{Less, Equal, Greater}
@@ -15,9 +15,8 @@ use Rattle.hits_page.specs.PageLaws.{hit_total}
 use Rattle.row_cells.specs.Sorted.{put, sorted}
 use Rattle.row_cells.specs.SortedLaws.{Told, sorted_front}
 use Rattle.hits_page.specs.declared.hits.Hit.{Hit}
-use Rattle.hits_page.specs.declared.hits.Page.{Page}
-use Rattle.hits_page.specs.declared.hits.Picked.{Picked}
 use Rattle.hits_page.specs.declared.sort_keys.SortKey.{SortKey}
+use Rattle.hits_page.proofs.Cutting.{page_eq}
 
 -- ---- rows apart are told apart
 
@@ -77,9 +76,6 @@ sorted_same keys (x ∷ xs) ys apart same =
     Each-weaker (AreApart x) (λ y. Told (hit_cmp keys) (hit_total keys) y x) (λ y is. told keys y x (apart_turned x y is)) before (each_front (AreApart x) before after others) in
     ap (put (hit_cmp keys) x) (sorted_same keys xs (before ++ after) apart.1 same.1.1.1)
     ∙ (sym (sorted_front (hit_cmp keys) (hit_total keys) x before after front) ∙ ap (sorted (hit_cmp keys)) (sym same.1.1.0))
-
-page_eq : {n m : ℕ} {xs ys : List Picked} → n ≡ m → xs ≡ ys → ◌≡◌ {A = Page} (record { total = n; rows = xs }) (record { total = m; rows = ys })
-page_eq p q = cc
 
 pub one_page : PagesInAnyOrder
 one_page keys from size xs ys apart same =

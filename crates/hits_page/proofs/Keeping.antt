@@ -1,87 +1,104 @@
--- The first hits with one more.
-use Rattle.std.specs.Prelude.{◌≡◌, ℕ, ℤ, zero, suc, ◌-◌, ◌≤◌, ◌&&◌, nat_le, Bool, true, false, not, List, [], ◌∷◌, length, take, Option, Some, None, if◌then◌else◌}
-use Rattle.std.specs.List.{insert, slice_get}
-use Rattle.std.specs.Ordering.{is_le}
+-- The hits that a pager holds, with one more.
+use Rattle.std.specs.Prelude.{◌≡◌, ℕ, zero, suc, ◌-◌, ◌≤◌, ◌&&◌, ◌||◌, nat_eq, not, Bool, true, false, List, [], ◌∷◌, ◌++◌, length, take, Option, Some, None}
+use Rattle.std.specs.List.{slice_get}
+use Rattle.std.specs.Ordering.{is_le, is_lt, ordering_reverse}
+use Rattle.std.specs.declared.cmp.Ordering.{Ordering}
+use Rattle.std.specs.declared.cmp.Ordering.TheVariants.{Less, Equal, Greater}
 use Rattle.std.proofs.Common.{refl, ap, ◌∙◌, sym, subst, arith}
-use Rattle.std.proofs.lemmas.Bool.{and_parts, leb-true}
-use Rattle.std.proofs.lemmas.Option.{slice_get_past}
-use Rattle.row_cells.specs.declared.scalars.Scalar.{Scalar}
-use Rattle.hits_page.specs.Hits.{Place, hit_cmp, is_before, is_before_hit, is_behind, is_behind_hit, is_behind_last, place_of}
+use Rattle.std.proofs.lemmas.Bool.{eqb-true}
+use Rattle.std.proofs.lemmas.List.{length-take}
+use Rattle.row_cells.specs.Each.{Each}
+use Rattle.row_cells.specs.Sorted.{sorted}
+use Rattle.row_cells.specs.SortedLaws.{UpTo, sorted_ascends, take_ascends}
+use Rattle.hits_page.specs.Hits.{hit_cmp, is_past, is_past_hit, place_of}
 use Rattle.hits_page.specs.PageLaws.{hit_total}
-use Rattle.hits_page.specs.Pages.{AreFirst, best_with}
-use Rattle.row_cells.specs.Sorted.{put, sorted}
-use Rattle.row_cells.specs.SortedLaws.{Ascend, Before, Behind, BehindFront, put_at, sorted_ascends, take_ascends, take_insert, take_put}
+use Rattle.hits_page.specs.Pages.{HasMark, Holds}
 use Rattle.hits_page.specs.declared.hits.Hit.{Hit}
 use Rattle.hits_page.specs.declared.sort_keys.SortKey.{SortKey}
+use Rattle.hits_page.proofs.Behind.{first_of_first, get_front, last_marks, length_take, same_past, same_with, sorted_length, take_front}
 
-not_true : (b : Bool) → not b ≡ true → b ≡ false
-not_true false is = refl
-not_true true is = cc
+pub one_longer : (x : Hit) (hits : List Hit) → length (hits ++ x ∷ []) ≡ suc (length hits)
+one_longer x [] = refl
+one_longer x (h ∷ hs) = ap suc (one_longer x hs)
 
-take_twice : {X : Type 0} (n : ℕ) (xs : List X) → take n (take n xs) ≡ take n xs
-take_twice zero xs = refl
-take_twice (suc n) [] = refl
-take_twice (suc n) (x ∷ xs) = ap (λ ys. x ∷ ys) (take_twice n xs)
+-- the first ones in order are no more than the limit
+pub within_limit : (keys : List SortKey) (limit : ℕ) (held new : List Hit) → new ≡ take limit (sorted (hit_cmp keys) held) → length new ≤ limit
+within_limit keys limit held new is = omega (arith, ap length is, length-take limit (sorted (hit_cmp keys) held))
 
-module _ (keys : List SortKey) (x : Hit) where
-  behind_hit : (o : Option Hit) → is_behind_hit keys (place_of x) o ≡ true → Behind (hit_cmp keys) (hit_total keys) x o
-  behind_hit None is = tt
-  behind_hit (Some y) is = not_true (is_le (hit_cmp keys x y)) is
-
-  behind_front : (hits : List Hit) (at : ℕ) → is_behind keys (place_of x) hits at ≡ true → BehindFront (hit_cmp keys) (hit_total keys) x hits at
-  behind_front hits zero is = tt
-  behind_front hits (suc k) is = behind_hit (slice_get hits k) is
-
-  before_hit : (o : Option Hit) → is_before_hit keys (place_of x) o ≡ true → Before (hit_cmp keys) (hit_total keys) x o
-  before_hit None is = tt
-  before_hit (Some y) is = is
-
-  pub kept : (limit at : ℕ) (best new offered : List Hit) → best ≡ take limit (sorted (hit_cmp keys) offered) → at ≤ length best →
-      is_behind keys (place_of x) best at ≡ true → is_before keys (place_of x) best at ≡ true → new ≡ best_with limit at x best →
-      new ≡ take limit (sorted (hit_cmp keys) (x ∷ offered))
-  kept limit at best new offered first within behind before is = is ∙ (by_limit (nat_le limit at) refl ∙ (ap (take limit) (sym placed) ∙ sym fewer))
+module _ (keys : List SortKey) (limit : ℕ) where
+  -- a hit that isn't before another one
+  not_before : (x y : Hit) → not (is_lt (hit_cmp keys x y)) ≡ true → UpTo (hit_cmp keys) (hit_total keys) y x
+  not_before x y is = by_order (hit_cmp keys x y) refl is
     where
-      ascends : Ascend (hit_cmp keys) (hit_total keys) best
-      ascends = subst (Ascend (hit_cmp keys) (hit_total keys)) (sym first) (take_ascends (hit_cmp keys) (hit_total keys) limit (sorted (hit_cmp keys) offered) (sorted_ascends (hit_cmp keys) (hit_total keys) offered))
+      turned : (o : Ordering) → hit_cmp keys x y ≡ o → hit_cmp keys y x ≡ ordering_reverse o
+      turned o o_is = (hit_total keys).antisymm y x ∙ ap ordering_reverse o_is
 
-      placed : put (hit_cmp keys) x best ≡ insert best at x
-      placed = put_at (hit_cmp keys) (hit_total keys) x best at ascends within (behind_front best at behind) (before_hit (slice_get best at) before)
+      by_order : (o : Ordering) → hit_cmp keys x y ≡ o → not (is_lt o) ≡ true → UpTo (hit_cmp keys) (hit_total keys) y x
+      by_order Less o_is test = cc
+      by_order Equal o_is test = ap is_le (turned Equal o_is)
+      by_order Greater o_is test = ap is_le (turned Greater o_is)
 
-      fewer : take limit (sorted (hit_cmp keys) (x ∷ offered)) ≡ take limit (put (hit_cmp keys) x best)
-      fewer = take_put (hit_cmp keys) (hit_total keys) limit x (sorted (hit_cmp keys) offered) ∙ ap (λ hits. take limit (put (hit_cmp keys) x hits)) (sym first)
+  -- one that is past the mark
+  pub passed : (has_mark : Bool) (x : Hit) (held offered : List Hit) → is_past keys (place_of x) limit has_mark held ≡ true →
+      Holds keys limit has_mark held offered → Holds keys limit has_mark held (offered ++ x ∷ [])
+  passed has_mark x held offered past holds = record { first = first; mark = holds.mark }
+    where
+      by_mark : (o : Option Hit) (m : Bool) → slice_get held (limit - 1) ≡ o → has_mark ≡ m → (m && is_past_hit keys (place_of x) o) ≡ true →
+          take limit (sorted (hit_cmp keys) (held ++ x ∷ [])) ≡ take limit (sorted (hit_cmp keys) held)
+      by_mark o false is m_is test = cc
+      by_mark None true is m_is test = cc
+      by_mark (Some mark) true is m_is test =
+          let has = holds.mark m_is in
+          same_past (hit_cmp keys) (hit_total keys) limit x mark held has.0 (has.1 mark is) (not_before x mark test)
 
-      short : take limit best ≡ best
-      short = ap (take limit) first ∙ (take_twice limit (sorted (hit_cmp keys) offered) ∙ sym first)
+      by_limit : (b : Bool) → nat_eq limit 0 ≡ b → (b || (has_mark && is_past_hit keys (place_of x) (slice_get held (limit - 1)))) ≡ true →
+          take limit (sorted (hit_cmp keys) (held ++ x ∷ [])) ≡ take limit (sorted (hit_cmp keys) held)
+      by_limit true is test =
+          let none : limit ≡ 0 = eqb-true limit 0 is in
+          ap (λ n. take n (sorted (hit_cmp keys) (held ++ x ∷ []))) none ∙ sym (ap (λ n. take n (sorted (hit_cmp keys) held)) none)
+      by_limit false is test = by_mark (slice_get held (limit - 1)) has_mark refl refl test
 
-      by_limit : (b : Bool) → nat_le limit at ≡ b → (if b then best else take limit (insert best at x)) ≡ take limit (insert best at x)
-      by_limit true late = sym (take_insert (hit_cmp keys) (hit_total keys) limit x best at (leb-true limit at late) within ∙ short)
-      by_limit false early = refl
+      first : take limit (sorted (hit_cmp keys) held) ≡ take limit (sorted (hit_cmp keys) (offered ++ x ∷ []))
+      first = sym (by_limit (nat_eq limit 0) refl past) ∙ same_with (hit_cmp keys) (hit_total keys) limit x held offered holds.first
 
-last_behind : (keys : List SortKey) (p : Place) (hits : List Hit) → is_behind_last keys p hits ≡ true → is_behind keys p hits (length hits) ≡ true
-last_behind keys p [] is = refl
-last_behind keys p (h ∷ hs) is =
-    let less : suc (length hs) - 1 ≡ length hs = omega arith in
-    ap (λ k. is_behind_hit keys p (slice_get (h ∷ hs) k)) (sym less) ∙ is
+  mark_stays : (n : ℕ) (x : Hit) (held : List Hit) → HasMark keys n held → HasMark keys n (held ++ x ∷ [])
+  mark_stays zero x held has = (omega arith, λ mark is. tt)
+  mark_stays (suc n) x held has = (
+    subst (λ k. suc n ≤ k) (sym (one_longer x held)) (omega (arith, has.0)),
+    λ mark is.
+        subst (Each (λ h. is_le (hit_cmp keys h mark) ≡ true)) (sym (take_front (suc n) held (x ∷ []) has.0)) (has.1 mark (sym (get_front held (x ∷ []) (suc n - 1) (omega (arith, has.0))) ∙ is)),
+  )
 
--- a row that is behind the last one of enough hits
-pub past_one : (keys : List SortKey) (limit : ℕ) (x : Hit) (best offered : List Hit) → (nat_le limit (length best) && is_behind_last keys (place_of x) best) ≡ true →
-    AreFirst keys limit offered best → AreFirst keys limit (x ∷ offered) best
-past_one keys limit x best offered past first =
-    let parts = and_parts (nat_le limit (length best)) (is_behind_last keys (place_of x) best) past in
-    let at = length best in
-    kept keys x limit at best best offered first (omega arith) (last_behind keys (place_of x) best parts.1)
-    (ap (is_before_hit keys (place_of x)) (slice_get_past best at (omega arith)))
-    (sym (ap (λ b. if b then best else take limit (insert best at x)) parts.0))
+  -- one that is put behind the others
+  pub pushed : (has_mark : Bool) (x : Hit) (held new offered : List Hit) → new ≡ held ++ x ∷ [] → Holds keys limit has_mark held offered → Holds keys limit has_mark new (offered ++ x ∷ [])
+  pushed has_mark x held new offered is holds = record {
+    first = ap (λ hits. take limit (sorted (hit_cmp keys) hits)) is ∙ same_with (hit_cmp keys) (hit_total keys) limit x held offered holds.first;
+    mark = λ has. subst (HasMark keys limit) (sym is) (mark_stays limit x held (holds.mark has));
+  }
 
-same_test : {S H : Type 0} (f : S → H → ℤ → Bool) (s t : S) (h g : H) (i j : ℤ) → s ≡ t → h ≡ g → i ≡ j → f t g j ≡ f s h i
-same_test f s t h g i j q r e = cc
+  mark_of : (n : ℕ) (xs : List Hit) → n ≤ length xs → HasMark keys n (take n (sorted (hit_cmp keys) xs))
+  mark_of zero xs le = (omega arith, λ mark is. tt)
+  mark_of (suc n) xs le =
+      let all = sorted (hit_cmp keys) xs in
+      let less : suc n - 1 ≡ n = omega arith in (
+        length_take (suc n) all (subst (λ k. suc n ≤ k) (sym (sorted_length (hit_cmp keys) (hit_total keys) xs)) le),
+        λ mark is.
+            last_marks (hit_cmp keys) (hit_total keys) n mark (take (suc n) all)
+            (take_ascends (hit_cmp keys) (hit_total keys) (suc n) all (sorted_ascends (hit_cmp keys) (hit_total keys) xs)) (ap (slice_get (take (suc n) all)) (sym less) ∙ is),
+      )
 
--- a row at the place that the search for it found
-pub placed_one : (keys : List SortKey) (limit : ℕ) (x : Hit) (at : ℕ) (best new offered hits : List Hit) (sort : List (Option Scalar)) (start : ℤ) → sort ≡ x.picked.sort → hits ≡ best → start ≡ x.start →
-    at ≤ length hits → is_behind keys (record { sort = sort; row = x.picked.row; start = start }) hits at ≡ true → is_before keys (record { sort = sort; row = x.picked.row; start = start }) hits at ≡ true →
-    new ≡ best_with limit at x best → AreFirst keys limit offered best → AreFirst keys limit (x ∷ offered) new
-placed_one keys limit x at best new offered hits sort start sort_is hits_are start_is within behind before is first =
-    kept keys x limit at best new offered first (subst (λ hs. at ≤ length hs) hits_are within)
-    (same_test (λ s hs t. is_behind keys (record { sort = s; row = x.picked.row; start = t }) hs at) sort x.picked.sort hits best start x.start sort_is hits_are start_is ∙ behind)
-    (same_test (λ s hs t. is_before keys (record { sort = s; row = x.picked.row; start = t }) hs at) sort x.picked.sort hits best start x.start sort_is hits_are start_is ∙ before)
-    is
+  -- the first ones alone, in order
+  pub settled : (has_mark : Bool) (held new offered : List Hit) → new ≡ take limit (sorted (hit_cmp keys) held) → limit ≤ length held →
+      Holds keys limit has_mark held offered → Holds keys limit true new offered
+  settled has_mark held new offered is le holds = record {
+    first = ap (λ hits. take limit (sorted (hit_cmp keys) hits)) is ∙ (first_of_first (hit_cmp keys) (hit_total keys) limit held ∙ holds.first);
+    mark = λ has. subst (HasMark keys limit) (sym is) (mark_of limit held le);
+  }
+
+  -- the same ones in some order that nothing is known of
+  pub unsettled : (has_mark : Bool) (held new offered : List Hit) → sorted (hit_cmp keys) new ≡ sorted (hit_cmp keys) held →
+      Holds keys limit has_mark held offered → Holds keys limit false new offered
+  unsettled has_mark held new offered same holds = record { first = ap (take limit) same ∙ holds.first; mark = λ has. absurd (apart has) }
+    where
+      apart : false ≡ true → ⊥
+      apart e = cc

@@ -1,4 +1,5 @@
 pub mod AnyOrder
+pub mod Behind
 pub mod Counted
 pub mod Cutting
 pub mod Keeping

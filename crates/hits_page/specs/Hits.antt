@@ -1,7 +1,7 @@
 -- Rows that were offered, and their order.
-use Rattle.std.specs.Prelude.{ℕ, zero, suc, ◌-◌, length, ℤ, pos, Bool, true, false, not, List, [], ◌∷◌, map, Option, Some, None}
+use Rattle.std.specs.Prelude.{ℕ, ◌-◌, nat_eq, ℤ, pos, Bool, true, false, not, ◌&&◌, ◌||◌, List, [], ◌∷◌, map, Option, Some, None}
 use Rattle.std.specs.List.{slice_get}
-use Rattle.std.specs.Ordering.{on, ordering_then, then_cmp, flip_args, nat_cmp, int_cmp, is_le}
+use Rattle.std.specs.Ordering.{on, ordering_then, then_cmp, flip_args, nat_cmp, int_cmp, is_lt}
 use Rattle.std.specs.declared.cmp.Ordering.{Ordering}
 use Rattle.std.specs.declared.cmp.Ordering.TheVariants.{Equal}
 use Rattle.row_cells.specs.declared.scalars.Scalar.{Scalar}
@@ -12,7 +12,6 @@ use Rattle.row_cells.specs.Order.{row_cmp}
 use Rattle.search_filter.specs.Values.{value_cmp, values_at}
 use Rattle.hits_page.specs.declared.hits.Hit.{Hit}
 use Rattle.hits_page.specs.declared.hits.Offer.{Offer}
-use Rattle.hits_page.specs.declared.order.PlaceAt.{PlaceAt}
 use Rattle.hits_page.specs.declared.sort_keys.SortKey.{SortKey}
 
 abbrev pub first_of : List Scalar → Option Scalar
@@ -79,9 +78,6 @@ hit_cmp keys = on place_of (place_cmp keys)
 
 -- ---- for private clauses
 
-abbrev pub seen_place : PlaceAt → Place
-seen_place p = record { sort = p.sort.now; row = p.row.now; start = p.start }
-
 abbrev pub offered_place : List SortKey → Offer → Place
 offered_place keys o = record { sort = sort_values keys o.schema.now.fields o.row.now; row = o.row.now; start = o.start }
 
@@ -89,23 +85,11 @@ offered_place keys o = record { sort = sort_values keys o.schema.now.fields o.ro
 abbrev pub tie_cmp : Row → ℤ → Hit → Ordering
 tie_cmp row start h = ordering_then (row_cmp row h.picked.row) (int_cmp h.start start)
 
-abbrev pub is_behind_hit : List SortKey → Place → Option Hit → Bool
-is_behind_hit keys p None = true
-is_behind_hit keys p (Some h) = not (is_le (place_cmp keys p (place_of h)))
+-- a place isn't before a hit, which is told
+abbrev pub is_past_hit : List SortKey → Place → Option Hit → Bool
+is_past_hit keys p None = false
+is_past_hit keys p (Some h) = not (is_lt (place_cmp keys p (place_of h)))
 
-abbrev pub is_before_hit : List SortKey → Place → Option Hit → Bool
-is_before_hit keys p None = true
-is_before_hit keys p (Some h) = is_le (place_cmp keys p (place_of h))
-
--- a place is behind the hit in front of a number
-abbrev pub is_behind : List SortKey → Place → List Hit → ℕ → Bool
-is_behind keys p hits zero = true
-is_behind keys p hits (suc k) = is_behind_hit keys p (slice_get hits k)
-
--- a place is behind the last hit, if there is one
-abbrev pub is_behind_last : List SortKey → Place → List Hit → Bool
-is_behind_last keys p hits = is_behind_hit keys p (slice_get hits (length hits - 1))
-
--- and isn't behind the hit at it
-abbrev pub is_before : List SortKey → Place → List Hit → ℕ → Bool
-is_before keys p hits at = is_before_hit keys p (slice_get hits at)
+-- no hits are wanted, or so many stand in order in front, and the place isn't before the last of these
+abbrev pub is_past : List SortKey → Place → ℕ → Bool → List Hit → Bool
+is_past keys p limit has_mark hits = nat_eq limit 0 || (has_mark && is_past_hit keys p (slice_get hits (limit - 1)))

@@ -1,7 +1,10 @@
--- How deep a page may lie.
+-- How deep a page may lie, and by how many values it may be sorted.
 use Rattle.std.specs.Prelude.{ℕ}
-use Rattle.hits_page.specs.declared.limits.TheConstants.{DEEPEST}
 
 -- the last hit that a page may have
 abbrev pub deepest : ℕ
-deepest = DEEPEST
+deepest = 10_000
+
+-- entries of a sort
+abbrev pub most_entries : ℕ
+most_entries = 3

@@ -9,6 +9,7 @@ use Rattle.row_cells.specs.declared.schemas.Role.TheVariants.{Time, Dimension, G
 use Rattle.row_cells.specs.declared.schemas.Field.{Field}
 use Rattle.row_cells.specs.declared.schemas.Schema.{Schema}
 use Rattle.search_filter.specs.Reading.{count_items}
+use Rattle.hits_page.specs.Limits.{most_entries}
 use Rattle.hits_page.specs.declared.entries.Entry.{Entry}
 use Rattle.hits_page.specs.declared.pager.PageError.{PageError}
 use Rattle.hits_page.specs.declared.pager.PageError.TheVariants.{WindowTooLarge, BadSort, Shape, NoMemory}
@@ -62,13 +63,13 @@ abbrev pub entries_in : Items → Option (List Entry)
 entries_in no_items = Some []
 entries_in (item d ds) = with_entry (entry_of d) (entries_in ds)
 
--- one entry, or a list of at most three
+-- one entry, or a short list
 abbrev pub entries_of : Data → Option (List Entry)
 entries_of null = None
 entries_of (boolean b) = None
 entries_of (number n) = None
 entries_of (string s) = with_entry (entry_of (string s)) (Some [])
-entries_of (array ds) = if nat_le (count_items ds) 3 then entries_in ds else None
+entries_of (array ds) = if nat_le (count_items ds) most_entries then entries_in ds else None
 entries_of (object ms) = with_entry (entry_of (object ms)) (Some [])
 
 -- ---- keys
@@ -110,10 +111,10 @@ keys_by fields (Some es) = keys_of fields es
 abbrev pub sort_of : Schema → Data → Result (List SortKey) PageError
 sort_of schema d = keys_by schema.fields (entries_of d)
 
--- why a call answers no sort: what the body has at fault, or want of memory, which is free
+-- why a call answers no sort: what the body has at fault, which is never the page, or want of memory, which is free
 abbrev pub IsCause : {A : Type 0} → Result A PageError → PageError → Type 0
 IsCause outcome NoMemory = Unit {0}
-IsCause outcome (WindowTooLarge n) = outcome ≡ Err (WindowTooLarge n)
+IsCause outcome (WindowTooLarge n) = ⊥
 IsCause outcome (BadSort path) = outcome ≡ Err (BadSort path)
 IsCause outcome Shape = outcome ≡ Err Shape
 

@@ -2,16 +2,15 @@
 ghost use Rattle.std.specs.Prelude.{◌≡◌, IfOk, Some, nat_le};
 ghost use Rattle.serde_json.specs.View.{items_view, view};
 ghost use Rattle.search_filter.specs.Reading.{count_items};
+ghost use Rattle.hits_page.specs.Limits.{most_entries};
 ghost use Rattle.hits_page.specs.Sorts as spec;
 
+use crate::limits::MOST_ENTRIES;
 use edge_face::{NoMemory, Text};
 use json_walk::only_member;
 use serde_json::Value;
 use sqlite_items::Items;
 use std::alloc::Global;
-
-/// The most entries that a sort has.
-const MOST_ENTRIES: usize = 3;
 
 /// A path to sort by, and whether values rise.
 #[derive(Drop)]
@@ -98,7 +97,7 @@ fn entries_in(alloc: Global, items: &[Value]) -> Result<Option<Items<Entry>>, No
 
 #[tactic(auto, using(crate::proofs::Counted::items_counted))]
 fn are_few(items: &[Value]) -> bool
-    ensures { result ≡ nat_le (count_items (items_view items.now)) 3 }
+    ensures { result ≡ nat_le (count_items (items_view items.now)) most_entries }
 {
     items.len() <= MOST_ENTRIES
 }

@@ -1,9 +1,9 @@
 //! The order of hits.
-ghost use Rattle.std.specs.Prelude.{◌≡◌, ◌≤◌, ◌&&◌, length, nat_le, not, true};
+ghost use Rattle.std.specs.Prelude.{◌≡◌};
 ghost use Rattle.std.specs.Option.{option_copied};
-ghost use Rattle.std.specs.Ordering.{is_le};
+ghost use Rattle.std.specs.Ordering.{is_lt};
 ghost use Rattle.hits_page.specs.Hits as spec;
-ghost use Rattle.hits_page.specs.Hits.{head_of, place_cmp, place_of, present_cmp, sort_cmp, tail_of};
+ghost use Rattle.hits_page.specs.Hits.{head_of, hit_cmp, place_cmp, place_of, present_cmp, sort_cmp, tail_of};
 ghost use Rattle.search_filter.specs.Seen.{seen};
 
 use crate::hits::{Hit, Offer};
@@ -99,24 +99,6 @@ fn compare_row(keys: &[SortKey], schema: &Schema, row: &Row, other: &[Option<Sca
     }
 }
 
-/// Where a row stands among hits: by its values, its key and time, and the start of its index's window.
-#[derive(Clone, Copy)]
-pub struct PlaceAt<'a> {
-    pub sort: &'a [Option<Scalar>],
-    pub row: &'a Row,
-    pub start: i64,
-}
-
-fn compare(keys: &[SortKey], place: PlaceAt<'_>, other: &Hit) -> Ordering
-    ensures { result ≡ place_cmp keys.now (spec.seen_place place.entry) (place_of other.now) }
-{
-    match compare_sorts(keys, place.sort, other.picked.sort.as_slice()) {
-        Ordering::Less => Ordering::Less,
-        Ordering::Greater => Ordering::Greater,
-        Ordering::Equal => compare_ties(place.row, place.start, other),
-    }
-}
-
 /// A row and a hit that no value tells apart.
 fn compare_ties(row: &Row, start: i64, other: &Hit) -> Ordering
     ensures { result ≡ spec.tie_cmp row.now start other.now }
@@ -124,45 +106,51 @@ fn compare_ties(row: &Row, start: i64, other: &Hit) -> Ordering
     row_order(row, &other.picked.row).then(other.start.cmp(&start))
 }
 
-/// Whether a row stands behind a hit. No value is copied for it.
-fn is_behind(keys: &[SortKey], offer: Offer<'_>, hit: &Hit) -> bool
-    ensures { result ≡ not (is_le (place_cmp keys.now (spec.offered_place keys.now offer.entry) (place_of hit.now))) }
+/// Whether a row stands before a hit. No value is copied for it.
+fn is_before(keys: &[SortKey], offer: Offer<'_>, hit: &Hit) -> bool
+    ensures { result ≡ is_lt (place_cmp keys.now (spec.offered_place keys.now offer.entry) (place_of hit.now)) }
 {
     match compare_row(keys, offer.schema, offer.row, hit.picked.sort.as_slice()) {
-        Ordering::Less => false,
-        Ordering::Greater => true,
-        Ordering::Equal => compare_ties(offer.row, offer.start, hit).is_gt(),
+        Ordering::Less => true,
+        Ordering::Greater => false,
+        Ordering::Equal => compare_ties(offer.row, offer.start, hit).is_lt(),
     }
 }
 
-/// Whether a row isn't among the first ones: there are so many hits already, and it stands behind the last of them.
-pub fn is_past(keys: &[SortKey], offer: Offer<'_>, hits: &[Hit], limit: usize) -> bool
-    ensures { result ≡ (nat_le limit (length hits.now) && spec.is_behind_last keys.now (spec.offered_place keys.now offer.entry) hits.now) }
+/// Whether a row isn't among the first ones: none is wanted, or so many hits stand in order in front and it isn't before the last of
+/// these.
+pub fn is_past(
+    keys: &[SortKey],
+    offer: Offer<'_>,
+    hits: &[Hit],
+    limit: usize,
+    has_mark: bool,
+) -> bool
+    ensures { result ≡ spec.is_past keys.now (spec.offered_place keys.now offer.entry) limit has_mark hits.now }
 {
-    if hits.len() < limit {
+    if limit == 0 {
+        return true;
+    }
+    if !has_mark {
         return false;
     }
-    match hits.last() {
-        None => true,
-        Some(last) => is_behind(keys, offer, last),
+    match hits.get(limit - 1) {
+        None => false,
+        Some(mark) => !is_before(keys, offer, mark),
     }
 }
 
-/// Where a place is among hits that stand in order, by halves.
-pub fn find_place(keys: &[SortKey], place: PlaceAt<'_>, hits: &[Hit]) -> usize
-    ensures within { result ≤ length hits.now }
-    ensures behind { spec.is_behind keys.now (spec.seen_place place.entry) hits.now result ≡ true }
-    ensures before { spec.is_before keys.now (spec.seen_place place.entry) hits.now result ≡ true }
+/// The order of hits.
+pub fn hit_order(keys: &[SortKey], left: &Hit, right: &Hit) -> Ordering
+    ensures { result ≡ hit_cmp keys.now left.now right.now }
 {
-    let mut low = 0;
-    let mut high = hits.len();
-    while low < high {
-        let middle = low + (high - low) / 2;
-        if compare(keys, place, &hits[middle]).is_le() {
-            high = middle;
-        } else {
-            low = middle + 1;
-        }
+    match compare_sorts(
+        keys,
+        left.picked.sort.as_slice(),
+        right.picked.sort.as_slice(),
+    ) {
+        Ordering::Less => Ordering::Less,
+        Ordering::Greater => Ordering::Greater,
+        Ordering::Equal => compare_ties(&left.picked.row, left.start, right),
     }
-    low
 }

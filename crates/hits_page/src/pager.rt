@@ -1,26 +1,29 @@
 //! A page gathered from rows that are offered one by one.
-ghost use Rattle.std.specs.Prelude.{◌≡◌, ◌+◌, ◌<◌, ◌≤◌, ◌^◌, [], ◌∷◌, List, map, drop, take, length, IfOk, IfErr, OnOk, OnErr};
-ghost use Rattle.std.specs.List.{insert};
+ghost use Rattle.std.specs.Prelude.{◌≡◌, ◌+◌, ◌*◌, ◌<◌, ◌≤◌, [], ◌∷◌, ◌++◌, List, length, map, drop, take, IfOk, IfErr, OnOk, OnErr};
+ghost use Rattle.std.specs.List.Sorted.{IsSorted, IsStable};
+ghost use Rattle.row_cells.specs.Sorted.{sorted};
 ghost use Rattle.hits_page.specs.Hits as spec;
+ghost use Rattle.hits_page.specs.Hits.{hit_cmp};
 ghost use Rattle.hits_page.specs.Limits.{deepest};
 ghost use Rattle.hits_page.specs.Pages as pages;
-ghost use Rattle.hits_page.specs.Pages.{AreFirst, IsPageCause, Stands, best_with, hit_offered, offered_hit, page_of};
+ghost use Rattle.hits_page.specs.Pages.{Holds, IsPageCause, Stands, hit_offered, page_of};
 ghost use Rattle.hits_page.specs.declared.hits.Hit.{Hit};
 
 use crate::counting::one_more;
 use crate::hits::{Hit, Offer, Page, Picked, sort_values};
 use crate::limits::DEEPEST;
-use crate::order::{PlaceAt, find_place, is_past};
+use crate::order::{hit_order, is_past};
 use crate::sort_keys::SortKey;
 use edge_face::{NoMemory, Text};
-use row_cells::{Row, Scalar, Schema, copy_row};
+use row_cells::{Row, Schema, copy_row};
 use sqlite_items::Items;
-use std::alloc::Global;
+use std::alloc::{AllocError, Global};
 use thiserror::Error;
 
 /// Why there is no page, or no order of one.
 #[derive(Debug, Drop, Error)]
 pub enum PageError {
+    /// The last hit of the page, or 2^64 - 1 where that is further.
     #[error("the page ends at hit {asked}, which is over {}", DEEPEST)]
     WindowTooLarge { asked: u64 },
     #[error("no sort by the field {}", path.as_str())]
@@ -40,87 +43,63 @@ pub struct Pager {
     /// `from + size`
     limit: usize,
     total: u64,
-    /// The first hits in order, up to the limit.
-    best: Vec<Hit>,
+    /// The hits that may be among the first, at most twice as many as the limit.
+    held: Vec<Hit>,
+    /// Whether those in front, up to the limit, stand in order, so that the last of them tells which rows needn't be kept.
+    has_mark: bool,
 }
 
-/// Puts a hit at its place, and lets go what is behind the limit.
-fn put_hit(best: &mut Vec<Hit>, at: usize, hit: Hit, limit: usize) -> Result<(), NoMemory>
-    requires { at ≤ length best.old.items }
-    ensures ok { OnOk result (best.new.items ≡ take limit (insert best.old.items at hit)) }
-    ensures err { OnErr result (best.new.items ≡ best.old.items) }
+/// Puts hits in order. Those that nothing tells apart stay as they stood.
+fn sort_hits(keys: &[SortKey], hits: &mut Vec<Hit>) -> Result<(), AllocError>
+    ensures sorted { OnOk result (IsSorted (hit_cmp keys.now) hits.new.items) }
+    ensures stable { IsStable (hit_cmp keys.now) hits.old.items hits.new.items }
+    ensures err { OnErr result (hits.new.items ≡ hits.old.items) }
 {
-    match best.insert(at, hit) {
-        Ok(()) => {
-            best.truncate(limit);
-            Ok(())
-        }
-        Err(_) => Err(NoMemory),
-    }
+    hits.sort_by(|a, b| hit_order(keys, a, b))
 }
 
-/// Puts a row at its place, where that is before the limit.
-fn keep_row(
+/// Puts hits in order, and lets go what is behind the first ones.
+fn settle(keys: &[SortKey], hits: &mut Vec<Hit>, limit: usize) -> Result<(), NoMemory>
+    ensures cut { OnOk result (hits.new.items ≡ take limit (sorted (hit_cmp keys.now) hits.old.items)) }
+    ensures err { OnErr result (hits.new.items ≡ hits.old.items) }
+{
+    sort_hits(keys, hits)?;
+    hits.truncate(limit);
+    Ok(())
+}
+
+/// Puts a row behind the hits.
+fn put_row(
     alloc: Global,
-    best: &mut Vec<Hit>,
-    at: usize,
+    keys: &[SortKey],
+    hits: &mut Vec<Hit>,
     offer: Offer<'_>,
-    sort: Items<Option<Scalar>>,
-    limit: usize,
 ) -> Result<(), NoMemory>
-    requires { at ≤ length best.old.items }
-    ensures ok { OnOk result (best.new.items ≡ best_with limit at (offered_hit offer.entry sort) best.old.items) }
-    ensures err { OnErr result (best.new.items ≡ best.old.items) }
+    ensures ok { OnOk result (hits.new.items ≡ hits.old.items ++ hit_offered keys.now offer.entry ∷ []) }
+    ensures err { OnErr result (hits.new.items ≡ hits.old.items) }
 {
-    if limit <= at {
-        return Ok(());
-    }
+    let sort = sort_values(alloc, keys, offer.schema, offer.row)?;
     let row = copy_row(alloc, offer.row)?;
     let picked = Picked {
         index: offer.index,
         row,
         sort,
     };
-    let hit = Hit {
+    hits.push(Hit {
         start: offer.start,
         picked,
-    };
-    put_hit(best, at, hit, limit)
-}
-
-/// Keeps a row where it is among the first ones. Another row costs one comparison with the last of these, and nothing is copied.
-fn put_row(
-    alloc: Global,
-    keys: &[SortKey],
-    best: &mut Vec<Hit>,
-    offer: Offer<'_>,
-    limit: usize,
-) -> Result<(), NoMemory>
-    ensures taken { OnOk result ((offered : List Hit) → AreFirst keys.now limit offered best.old.items
-        → AreFirst keys.now limit (hit_offered keys.now offer.entry ∷ offered) best.new.items) }
-    ensures kept { OnErr result (best.new.items ≡ best.old.items) }
-{
-    if is_past(keys, offer, best.as_slice(), limit) {
-        return Ok(());
-    }
-    let sort = sort_values(alloc, keys, offer.schema, offer.row)?;
-    let place = PlaceAt {
-        sort: sort.as_slice(),
-        row: offer.row,
-        start: offer.start,
-    };
-    let at = find_place(keys, place, best.as_slice());
-    keep_row(alloc, best, at, offer, sort, limit)
+    })?;
+    Ok(())
 }
 
 /// The rows of the hits behind the first ones.
 #[tactic(auto, using(crate::proofs::Cutting::drop_one))]
-fn cut(alloc: Global, best: Vec<Hit>, from: usize) -> Result<Items<Picked>, NoMemory>
-    ensures { IfOk result (λ rows. rows ≡ map (λ h. h.picked) (drop from best.items)) }
+fn cut(alloc: Global, hits: Vec<Hit>, from: usize) -> Result<Items<Picked>, NoMemory>
+    ensures { IfOk result (λ rows. rows ≡ map (λ h. h.picked) (drop from hits.items)) }
 {
     let mut rows = Items::new(alloc);
     let mut left = from;
-    for hit in best {
+    for hit in hits {
         if left == 0 {
             rows.push(hit.picked)?;
         } else {
@@ -138,20 +117,20 @@ pub fn is_too_deep(from: u64, size: u64) -> bool
 }
 
 impl Pager {
-    /// A pager for the hits from one on, and so many, to which nothing was offered.
+    /// A pager for the hits from one on, and so many, to which nothing was offered. It is refused exactly where the page ends behind
+    /// hit `DEEPEST`.
     pub fn new(
         alloc: Global,
         sort: Items<SortKey>,
         from: u64,
         size: u64,
     ) -> Result<Pager, PageError>
-        requires { from + size < 2 ^ 64 }
         ensures stands { IfOk result (λ pager. Stands pager []) }
         ensures asked { IfOk result (λ pager. (pager.keys ≡ sort) × (pager.from ≡ from) × (pager.size ≡ size)) }
         ensures few { IfOk result (λ pager. from + size ≤ deepest) }
         ensures err { IfErr result (IsPageCause (from + size)) }
     {
-        let asked = from + size;
+        let asked = from.saturating_add(size);
         if DEEPEST < asked {
             return Err(PageError::WindowTooLarge { asked });
         }
@@ -161,12 +140,51 @@ impl Pager {
             size: size as usize,
             limit: asked as usize,
             total: 0,
-            best: Vec::new(alloc),
+            held: Vec::new(alloc),
+            has_mark: false,
         })
     }
 
-    /// Keeps a row where it is among the first ones. The row fits a schema with the fields that the sort was read with. After a
-    /// refusal nothing was offered.
+    /// Where twice as many hits are held as are wanted, puts them in order and lets go what is behind the first ones.
+    fn make_room(&mut self) -> Result<(), NoMemory>
+        ensures stands { (offered : List Hit) → Stands self.old offered → Stands self.new offered }
+        ensures asked { (self.new.keys ≡ self.old.keys) × (self.new.from ≡ self.old.from) × (self.new.size ≡ self.old.size) }
+        ensures same { (self.new.limit ≡ self.old.limit) × (self.new.total ≡ self.old.total) }
+        ensures room { OnOk result (0 < self.old.limit → length self.new.held.items < 2 * self.old.limit) }
+    {
+        if self.held.len() / 2 < self.limit {
+            return Ok(());
+        }
+        self.has_mark = false;
+        settle(self.keys.as_slice(), &mut self.held, self.limit)?;
+        self.has_mark = true;
+        Ok(())
+    }
+
+    /// Keeps a row where it may be among the first ones. Another one costs a comparison, and nothing of it is copied.
+    fn keep(&mut self, alloc: Global, offer: Offer<'_>) -> Result<(), NoMemory>
+        ensures taken { OnOk result ((offered : List Hit) → Stands self.old offered
+            → Holds self.new.keys self.new.limit self.new.has_mark self.new.held.items (offered ++ hit_offered self.old.keys offer.entry ∷ [])) }
+        ensures few { OnOk result (length self.old.held.items ≤ 2 * self.old.limit → length self.new.held.items ≤ 2 * self.new.limit) }
+        ensures kept { OnErr result ((offered : List Hit) → Stands self.old offered → Stands self.new offered) }
+        ensures asked { (self.new.keys ≡ self.old.keys) × (self.new.from ≡ self.old.from) × (self.new.size ≡ self.old.size) }
+        ensures same { (self.new.limit ≡ self.old.limit) × (self.new.total ≡ self.old.total) }
+    {
+        if is_past(
+            self.keys.as_slice(),
+            offer,
+            self.held.as_slice(),
+            self.limit,
+            self.has_mark,
+        ) {
+            return Ok(());
+        }
+        self.make_room()?;
+        put_row(alloc, self.keys.as_slice(), &mut self.held, offer)?;
+        Ok(())
+    }
+
+    /// Offers a row. It fits a schema with the fields that the sort was read with. After a refusal nothing was offered.
     pub fn offer(
         &mut self,
         alloc: Global,
@@ -176,7 +194,7 @@ impl Pager {
         row: &Row,
     ) -> Result<(), NoMemory>
         ensures taken { OnOk result ((offered : List Hit) → Stands self.old offered
-            → Stands self.new (spec.hit_of self.old.keys schema.now.fields index start row.now ∷ offered)) }
+            → Stands self.new (offered ++ spec.hit_of self.old.keys schema.now.fields index start row.now ∷ [])) }
         ensures kept { OnErr result ((offered : List Hit) → Stands self.old offered → Stands self.new offered) }
         ensures asked { (self.new.keys ≡ self.old.keys) × (self.new.from ≡ self.old.from) × (self.new.size ≡ self.old.size) }
     {
@@ -187,13 +205,7 @@ impl Pager {
             schema,
             row,
         };
-        put_row(
-            alloc,
-            self.keys.as_slice(),
-            &mut self.best,
-            offer,
-            self.limit,
-        )?;
+        self.keep(alloc, offer)?;
         self.total = total;
         Ok(())
     }
@@ -203,12 +215,16 @@ impl Pager {
         ensures { IfOk result (λ page. (offered : List Hit) → Stands self offered → page ≡ page_of self.keys self.from self.size offered) }
     {
         let Pager {
-            best,
+            keys,
             from,
+            limit,
             total,
+            held,
             ..
         } = self;
-        let rows = cut(alloc, best, from)?;
+        let mut held = held;
+        settle(keys.as_slice(), &mut held, limit)?;
+        let rows = cut(alloc, held, from)?;
         Ok(Page { total, rows })
     }
 }

@@ -5,6 +5,7 @@ use Rattle.std.specs.Str.{is_utf8, chars}
 use Rattle.std.specs.declared.result.Result.TheVariants.{Ok, Err}
 use Rattle.std.proofs.Common.{refl}
 use Rattle.serde_json.specs.Data.{Data, null, string, array, object, no_items, item, no_members, member}
+use Rattle.time_text.specs.Bucket.{bucket_start}
 use Rattle.row_cells.specs.declared.scalars.Scalar.TheVariants.{Whole, Word}
 use Rattle.row_cells.specs.declared.schemas.FieldType.TheVariants.{Date, Keyword, Long, Boolean}
 use Rattle.row_cells.specs.declared.schemas.Role.TheVariants.{Time, Dimension, Gauge as GaugeRole}
@@ -12,6 +13,7 @@ use Rattle.row_cells.specs.declared.schemas.Field.{Field}
 use Rattle.row_cells.specs.declared.schemas.Schema.{Schema}
 use Rattle.row_cells.specs.declared.rows.Cell.TheVariants.{Absent, One, Gauge}
 use Rattle.row_cells.specs.declared.rows.Row.{Row}
+use Rattle.search_filter.specs.Aligned.{align_step}
 use Rattle.search_filter.specs.Matching.{match_step}
 use Rattle.search_filter.specs.Reading.{query_of}
 use Rattle.search_filter.specs.Values.{values_at}
@@ -86,3 +88,29 @@ above_its_minimum = refl
 
 an_absent_value : match_step fields folded_row (Query-F.Has (3 ∷ [])) ≡ false
 an_absent_value = refl
+
+-- ranges of whole minutes are aligned by `gte` and `lt` at their starts
+whole_minutes : align_step 60_000 fields (Query-F.Between 0 (Some (record { value = Whole (pos 60_000); inclusive = true })) (Some (record { value = Whole (pos 120_000); inclusive = false }))) ≡ true
+unfolding bucket_start
+whole_minutes = refl
+
+a_second_past : align_step 60_000 fields (Query-F.Between 0 (Some (record { value = Whole (pos 61_000); inclusive = true })) None) ≡ false
+unfolding bucket_start
+a_second_past = refl
+
+up_to_and_with : align_step 60_000 fields (Query-F.Between 0 None (Some (record { value = Whole (pos 60_000); inclusive = true }))) ≡ false
+up_to_and_with = refl
+
+-- a dimension may be asked for in any way, a gauge in none, and that there is a time in none either
+a_dimension : align_step 60_000 fields (Query-F.OneOf 2 (Word (codes "a") ∷ [])) ≡ true
+a_dimension = refl
+
+a_gauge : align_step 60_000 fields (Query-F.Has (1 ∷ [])) ≡ false
+a_gauge = refl
+
+the_time : align_step 60_000 fields (Query-F.Has (0 ∷ [])) ≡ false
+the_time = refl
+
+-- `should` and `must_not` may ask for whole buckets too
+in_all_lists : align_step 60_000 fields (Query-F.Bool [] (true ∷ true ∷ []) (true ∷ []) 1) ≡ true
+in_all_lists = refl

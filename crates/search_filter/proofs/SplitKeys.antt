@@ -1,96 +1,25 @@
 -- What a key tells of its rows, the rest of a query that splits is told by it.
-use Rattle.std.specs.Prelude.{◌≡◌, ℕ, zero, suc, ℤ, pos, int_le, nat_le, Bool, true, false, ◌&&◌, ◌||◌, not, List, [], ◌∷◌, length, map, if◌then◌else◌, Option, Some, None}
-use Rattle.std.specs.List.{list_all, list_any, slice_get}
-use Rattle.std.proofs.Common.{refl, ap, sym, ◌∙◌, subst, arith, inl, inr}
+use Rattle.std.specs.Prelude.{◌≡◌, ℕ, ℤ, pos, int_le, nat_le, Bool, true, false, ◌&&◌, ◌||◌, not, List, [], ◌∷◌, map, if◌then◌else◌, Option, Some, None}
+use Rattle.std.specs.List.{list_all, list_any}
+use Rattle.std.proofs.Common.{refl, ap, sym, ◌∙◌, subst}
 use Rattle.std.proofs.lemmas.Bool.{and_parts}
-use Rattle.row_cells.specs.declared.rows.Cell.{Cell}
 use Rattle.row_cells.specs.declared.rows.Row.{Row}
 use Rattle.row_cells.specs.declared.scalars.Scalar.{Scalar}
 use Rattle.row_cells.specs.declared.schemas.Field.{Field}
-use Rattle.row_cells.specs.declared.schemas.Role.{Role}
-use Rattle.row_cells.specs.declared.schemas.Role.TheVariants.{Time as TimeRole, Dimension, Gauge, Counter, Label}
 use Rattle.row_cells.specs.declared.schemas.Schema.{Schema}
 use Rattle.row_cells.specs.Dimensions.{key_bytes}
-use Rattle.row_cells.specs.Fitting.{CellsFit, Fits, FitsEither, folded_form, raw_form}
-use Rattle.row_cells.specs.HeadLaws.{head_cell, head_cells, heads_are}
-use Rattle.row_cells.specs.Heads.{heads_in}
-use Rattle.row_cells.specs.Mapped.{IsMapped}
-use Rattle.search_filter.specs.Matching.{count_true, has_value, is_one_of, is_some_value, is_true, is_within, match_step, matches_row}
+use Rattle.search_filter.specs.Forms.{FitsFields}
+use Rattle.search_filter.specs.Matching.{count_true, has_value, is_one_of, is_true, is_within, match_step, matches_row}
 use Rattle.search_filter.specs.SplitLaws.{RestByHead, RestByKey}
-use Rattle.search_filter.specs.Splitting.{begin_of, end_at, end_of, end_of_time, is_presence_told, join_all, joined_if, rests_if, split_bool, split_by, split_of, split_step, teller_at, teller_by, teller_of, timed, timed_one, timeless}
-use Rattle.search_filter.specs.Values.{values_at, values_by, values_in, values_under}
+use Rattle.search_filter.specs.Splitting.{begin_of, end_at, end_of, end_of_time, is_presence_told, join_all, joined_if, rests_if, split_bool, split_by, split_of, split_step, teller_at, timed, timed_one, timeless}
+use Rattle.search_filter.specs.Values.{values_at}
 use Rattle.search_filter.specs.declared.query.Query.{Query, All, Nothing, Has, OneOf, Between}
 use Rattle.search_filter.specs.declared.splits.Joined.{Joined}
 use Rattle.search_filter.specs.declared.splits.Split.{Split}
 use Rattle.search_filter.specs.declared.tellers.Teller.{Teller}
 use Rattle.search_filter.specs.declared.tellers.Teller.TheVariants.{Time, Key, Cell as CellTeller}
+use Rattle.search_filter.proofs.SameHeads.{HaveSameHeads, keyed_alike, presence_told, values_told}
 use Rattle.search_filter.proofs.SplitFolds.{AllOf, by_kinds, fold_all, fold_between, fold_bool, fold_has, fold_nothing, fold_one_of}
-
--- ---- what two rows of a key have in common
-
--- cells beside fields, which have the same dimensions
-record HaveSameHeads (fields : List Field) (row other : Row) : Type 0 where
-  heads : head_cells fields row.cells ≡ head_cells fields other.cells
-  long : length row.cells ≡ length fields
-  other_long : length other.cells ≡ length fields
-
-cells_long : (folded rises : Bool) (n : ℕ) (fs : List Field) (cs : List Cell) → CellsFit folded rises n fs cs → length cs ≡ length fs
-cells_long folded rises n [] [] fit = refl
-cells_long folded rises n [] (c ∷ cs) fit = absurd fit
-cells_long folded rises n (f ∷ fs) [] fit = absurd fit
-cells_long folded rises n (f ∷ fs) (c ∷ cs) fit = ap suc (cells_long folded rises n fs cs fit.1)
-
-same_heads : (schema first second : Schema) (row other : Row) → first.fields ≡ schema.fields → second.fields ≡ schema.fields → IsMapped first → IsMapped second → Fits first row → Fits second other → row.key ≡ other.key → HaveSameHeads schema.fields row other
-same_heads schema first second row other one two mapped other_mapped fits other_fits key = record {
-  heads = subst (λ fs. head_cells fs row.cells ≡ head_cells schema.fields other.cells) one (sym (heads_are first row mapped fits) ∙ (ap (λ fs. heads_in fs row.key) one
-      ∙ (ap (heads_in schema.fields) key ∙ (ap (λ fs. heads_in fs other.key) (sym two) ∙ (heads_are second other other_mapped other_fits ∙ ap (λ fs. head_cells fs other.cells) two)))));
-  long = cells_long first.folded first.rises row.count first.fields row.cells fits.cells_fit ∙ ap length one;
-  other_long = cells_long second.folded second.rises other.count second.fields other.cells other_fits.cells_fit ∙ ap length two;
-}
-
-same_cell : (fs : List Field) (xs ys : List Cell) (place : ℕ) (f : Field) → head_cells fs xs ≡ head_cells fs ys → length xs ≡ length fs → length ys ≡ length fs → slice_get fs place ≡ Some f → f.role ≡ Dimension → slice_get xs place ≡ slice_get ys place
-same_cell [] xs ys place f heads x_long y_long there role = cc
-same_cell (g ∷ fs) [] ys place f heads x_long y_long there role = absurd (omega (arith, x_long))
-same_cell (g ∷ fs) (x ∷ xs) [] place f heads x_long y_long there role = absurd (omega (arith, y_long))
-same_cell (g ∷ fs) (x ∷ xs) (y ∷ ys) zero f heads x_long y_long there role =
-    let is : g ≡ f = cc in
-    let dimension : g.role ≡ Dimension = ap (λ h. h.role) is ∙ role in
-    let first : head_cell g.role x ≡ head_cell g.role y = cc in
-    ap Some (subst (λ r. head_cell r x ≡ head_cell r y) dimension first)
-same_cell (g ∷ fs) (x ∷ xs) (y ∷ ys) (suc place) f heads x_long y_long there role =
-    let rest : head_cells fs xs ≡ head_cells fs ys = cc in
-    same_cell fs xs ys place f rest (omega (arith, x_long)) (omega (arith, y_long)) there role
-
--- what the key tells of values
-values_told : (fields : List Field) (row other : Row) (place : ℕ) → HaveSameHeads fields row other → teller_at fields place ≡ Key → values_at fields place row ≡ values_at fields place other
-values_told fields row other place same = by_field (slice_get fields place) refl
-  where
-    by_role : (f : Field) (role : Role) → f.role ≡ role → slice_get fields place ≡ Some f → teller_by role ≡ Key → values_by role row.time (slice_get row.cells place) ≡ values_by role other.time (slice_get other.cells place)
-    by_role f TimeRole role there is = cc
-    by_role f Dimension role there is = ap values_in (same_cell fields row.cells other.cells place f same.heads same.long same.other_long there role)
-    by_role f Gauge role there is = cc
-    by_role f Counter role there is = cc
-    by_role f Label role there is = cc
-
-    by_field : (f : Option Field) → slice_get fields place ≡ f → teller_of f ≡ Key → values_under f row.time (slice_get row.cells place) ≡ values_under f other.time (slice_get other.cells place)
-    by_field None there is = refl
-    by_field (Some f) there is = by_role f f.role refl there is
-
-presence_told : (fields : List Field) (row other : Row) (place : ℕ) → HaveSameHeads fields row other → is_presence_told (teller_at fields place) ≡ true → has_value fields row place ≡ has_value fields other place
-presence_told fields row other place same = by_field (slice_get fields place) refl
-  where
-    by_role : (f : Field) (role : Role) → f.role ≡ role → slice_get fields place ≡ Some f → is_presence_told (teller_by role) ≡ true →
-        is_some_value (values_by role row.time (slice_get row.cells place)) ≡ is_some_value (values_by role other.time (slice_get other.cells place))
-    by_role f TimeRole role there is = refl
-    by_role f Dimension role there is = ap (λ c. is_some_value (values_in c)) (same_cell fields row.cells other.cells place f same.heads same.long same.other_long there role)
-    by_role f Gauge role there is = cc
-    by_role f Counter role there is = cc
-    by_role f Label role there is = cc
-
-    by_field : (f : Option Field) → slice_get fields place ≡ f → is_presence_told (teller_of f) ≡ true →
-        is_some_value (values_under f row.time (slice_get row.cells place)) ≡ is_some_value (values_under f other.time (slice_get other.cells place))
-    by_field None there is = refl
-    by_field (Some f) there is = by_role f f.role refl there is
 
 -- ---- what the rest answers
 
@@ -205,22 +134,11 @@ tells schema row other same = by_kinds (λ q. Tells schema row other (split_of s
 told_rest : (schema : Schema) (query : Query) (split : Split) (row other : Row) → split_of schema query ≡ Some split → HaveSameHeads schema.fields row other → matches_row split.rest schema row ≡ matches_row split.rest schema other
 told_rest schema query split row other is same = subst (Tells schema row other) is (tells schema row other same query)
 
-folded_mapped : (schema : Schema) → IsMapped schema → IsMapped (folded_form schema)
-folded_mapped schema mapped = record { ascending = mapped.ascending; paths = mapped.paths; routing = mapped.routing }
-
-raw_mapped : (schema : Schema) → IsMapped schema → IsMapped (raw_form schema)
-raw_mapped schema mapped = record { ascending = mapped.ascending; paths = mapped.paths; routing = mapped.routing }
-
-either_same : (schema : Schema) (row other : Row) → IsMapped schema → FitsEither schema row → FitsEither schema other → row.key ≡ other.key → HaveSameHeads schema.fields row other
-either_same schema row other mapped (inl fits) (inl other_fits) key = same_heads schema schema schema row other refl refl mapped mapped fits other_fits key
-either_same schema row other mapped (inl fits) (inr other_fits) key = same_heads schema schema (folded_form schema) row other refl refl mapped (folded_mapped schema mapped) fits other_fits key
-either_same schema row other mapped (inr fits) (inl other_fits) key = same_heads schema (folded_form schema) schema row other refl refl (folded_mapped schema mapped) mapped fits other_fits key
-either_same schema row other mapped (inr fits) (inr other_fits) key = same_heads schema (folded_form schema) (folded_form schema) row other refl refl (folded_mapped schema mapped) (folded_mapped schema mapped) fits other_fits key
-
 pub rest_by_key : RestByKey
-rest_by_key schema query split row other is mapped fits other_fits key = told_rest schema query split row other is (either_same schema row other mapped fits other_fits key)
+rest_by_key schema query split row other is mapped fits other_fits key = told_rest schema query split row other is (keyed_alike schema row other mapped fits other_fits key)
 
 pub rest_by_head : RestByHead
 rest_by_head schema query split row head is mapped fits headed =
-    let key : row.key ≡ head.key = fits.key_is ∙ (ap key_bytes (sym headed.dimensions) ∙ sym headed.fits.key_is) in
-    told_rest schema query split row head is (same_heads schema schema (raw_form schema) row head refl refl mapped (raw_mapped schema mapped) fits headed.fits key)
+    let head_fits : FitsFields schema head = record { is_folded = false; is_risen = schema.rises; fits = headed.fits } in
+    let key : row.key ≡ head.key = fits.fits.key_is ∙ (ap key_bytes (sym headed.dimensions) ∙ sym headed.fits.key_is) in
+    told_rest schema query split row head is (keyed_alike schema row head mapped fits head_fits key)

@@ -62,7 +62,7 @@ range_agrees schema row from to b is =
     is ∙ (sym (and_true (is_between from to row.time)) ∙ ap (λ m. is_between from to row.time && m) (sym (matches_all schema row)))
 
 -- the values at a field of which the time tells are the time
-time_alone : (fields : List Field) (row : Row) (place : ℕ) → teller_at fields place ≡ Time → values_at fields place row ≡ Whole row.time ∷ []
+pub time_alone : (fields : List Field) (row : Row) (place : ℕ) → teller_at fields place ≡ Time → values_at fields place row ≡ Whole row.time ∷ []
 time_alone fields row place = by_field (slice_get fields place)
   where
     by_role : (role : Role) → teller_by role ≡ Time → values_by role row.time (slice_get row.cells place) ≡ Whole row.time ∷ []

@@ -16,7 +16,7 @@ use Rattle.search_filter.specs.Splitting.{begin_of, cut_time, end_at, end_of, en
 use Rattle.search_filter.specs.Values.{value_cmp}
 use Rattle.search_filter.specs.declared.query.Bound.{Bound}
 
-le_true : (a b : ℤ) → a ≤ℤ b → int_le a b ≡ true
+pub le_true : (a b : ℤ) → a ≤ℤ b → int_le a b ≡ true
 le_true a b is = grind (arith, ints)
 
 le_false : (a b : ℤ) → b <ℤ a → int_le a b ≡ false
@@ -44,7 +44,7 @@ cut_to x t is = grind (arith, ints, clamps, is.0, is.1)
 
 -- ---- bounds
 
-over_by : (t u : ℤ) (inclusive : Bool) (o : Ordering) → MatchOrdering o (t <ℤ u) (t ≡ u) (u <ℤ t) → is_over o inclusive ≡ int_le (time_or_next (not inclusive) u) t
+pub over_by : (t u : ℤ) (inclusive : Bool) (o : Ordering) → MatchOrdering o (t <ℤ u) (t ≡ u) (u <ℤ t) → is_over o inclusive ≡ int_le (time_or_next (not inclusive) u) t
 over_by t u true Less is = sym (le_false u t is)
 over_by t u true Equal is = sym (le_true u t (omega (arith, ints, is)))
 over_by t u true Greater is = sym (le_true u t (omega (arith, ints, is)))
@@ -52,7 +52,7 @@ over_by t u false Less is = sym (le_false (u +ℤ pos 1) t (omega (arith, ints, 
 over_by t u false Equal is = sym (le_false (u +ℤ pos 1) t (omega (arith, ints, is)))
 over_by t u false Greater is = sym (le_true (u +ℤ pos 1) t (omega (arith, ints, is)))
 
-under_by : (t u : ℤ) (inclusive : Bool) (o : Ordering) → MatchOrdering o (t <ℤ u) (t ≡ u) (u <ℤ t) → is_under o inclusive ≡ int_lt t (time_or_next inclusive u)
+pub under_by : (t u : ℤ) (inclusive : Bool) (o : Ordering) → MatchOrdering o (t <ℤ u) (t ≡ u) (u <ℤ t) → is_under o inclusive ≡ int_lt t (time_or_next inclusive u)
 under_by t u true Less is = sym (lt_true t (u +ℤ pos 1) (omega (arith, ints, is)))
 under_by t u true Equal is = sym (lt_true t (u +ℤ pos 1) (omega (arith, ints, is)))
 under_by t u true Greater is = sym (lt_false t (u +ℤ pos 1) (omega (arith, ints, is)))
@@ -70,7 +70,7 @@ then_equal Less = refl
 then_equal Equal = refl
 then_equal Greater = refl
 
-wholes : (t u : ℤ) → value_cmp (Whole t) (Whole u) ≡ int_cmp t u
+pub wholes : (t u : ℤ) → value_cmp (Whole t) (Whole u) ≡ int_cmp t u
 wholes t u = then_equal (int_cmp t u)
 
 -- a time is over a bound where it is in the range that begins there

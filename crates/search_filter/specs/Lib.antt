@@ -1,10 +1,13 @@
+pub mod Aligned
 pub mod FaultLaws
 pub mod Faults
+pub mod Forms
 pub mod Limits
 pub mod Matching
 pub mod Reading
 pub mod Seen
 pub mod SplitLaws
 pub mod Splitting
+pub mod StableLaws
 pub mod ValueLaws
 pub mod Values

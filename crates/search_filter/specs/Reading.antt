@@ -12,9 +12,11 @@ use Rattle.row_cells.specs.declared.schemas.FieldType.{FieldType}
 use Rattle.row_cells.specs.declared.schemas.FieldType.TheVariants.{Date, Keyword, Long, Integer, Short, Byte, Boolean, Aggregate}
 use Rattle.row_cells.specs.declared.schemas.Field.{Field}
 use Rattle.row_cells.specs.declared.schemas.Schema.{Schema}
+use Rattle.row_cells.specs.Sorted.{sorted}
 use Rattle.ts_mapping.specs.Readings.{reading_of}
 use Rattle.search_filter.specs.Faults.{worst_with}
 use Rattle.search_filter.specs.Limits.{most_terms}
+use Rattle.search_filter.specs.Values.{value_cmp}
 use Rattle.search_filter.specs.declared.faults.Fault.{Fault}
 use Rattle.search_filter.specs.declared.faults.Fault.TheVariants.{Shape, WrongValue}
 use Rattle.search_filter.specs.declared.places.Placed.{Placed}
@@ -86,8 +88,9 @@ abbrev pub values_in : FieldType → List ℕ → Items → Read (List Scalar)
 values_in kind path no_items = good []
 values_in kind path (item d ds) = joined (value_in kind path d) (values_in kind path ds)
 
+-- one of these values, which are kept in order
 abbrev pub one_of : ℕ → Read (List Scalar) → Read Query
-one_of field r = record { faults = r.faults; value = OneOf field r.value }
+one_of field r = record { faults = r.faults; value = OneOf field (sorted value_cmp r.value) }
 
 -- ---- term: a value, or an object that has it as `value` alone
 

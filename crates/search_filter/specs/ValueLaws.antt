@@ -11,10 +11,15 @@ use Rattle.std.proofs.lemmas.Map.Text.{is_eq-slice_cmp}
 use Rattle.std.proofs.lemmas.Slice.Eq.{bytes_eq-Decides}
 use Rattle.row_cells.specs.declared.scalars.Scalar.{Scalar}
 use Rattle.row_cells.specs.declared.scalars.Scalar.TheVariants.{Whole, Flag, Word}
+use Rattle.row_cells.specs.SortedLaws.{Ascend}
 use Rattle.search_filter.specs.Values.{number_of, word_of, rank_of, value_cmp}
 
 pub value_cmp_total : IsTotalOrder value_cmp
 value_cmp_total = then_total (on_total rank_of nat_cmp_total) (then_total (on_total number_of int_cmp_total) (on_total word_of nat_list_cmp_total))
+
+-- values that ascend
+abbrev pub AreInOrder : List Scalar → Type 0
+AreInOrder = Ascend value_cmp value_cmp_total
 
 pub whole_tied : (x y : ℤ) → int_cmp x y ≡ Equal → x ≡ y
 whole_tied x y is = int_ranked x y Equal (sym is)

@@ -1,5 +1,5 @@
 //! Which rows a query takes. Nothing here takes memory.
-ghost use Rattle.std.specs.Prelude.{◌≡◌, map};
+ghost use Rattle.std.specs.Prelude.{◌≡◌, map, nat_le};
 ghost use Rattle.std.specs.List.{list_all, list_any};
 ghost use Rattle.std.specs.Option.{option_copied};
 ghost use Rattle.search_filter.specs.Matching as spec;
@@ -8,39 +8,29 @@ ghost use Rattle.search_filter.specs.Seen.{seen};
 ghost use Rattle.search_filter.specs.Values.{values_at};
 
 use crate::query::{Bound, Query};
+use crate::value_set::ValueSet;
 use crate::values::{Held, held_at, value_order};
 use row_cells::{Row, Scalar, Schema};
 use std::cmp::Ordering;
 
-fn is_one_of(value: &Scalar, values: &[Scalar]) -> bool
-    ensures { result ≡ spec.is_one_of values.now value.now }
-{
-    for other in values {
-        if value_order(value, other) == Ordering::Equal {
-            return true;
-        }
-    }
-    false
-}
-
-fn is_any_one_of(several: &[Scalar], values: &[Scalar]) -> bool
+fn is_any_one_of(several: &[Scalar], values: &ValueSet) -> bool
     ensures { result ≡ list_any (spec.is_one_of values.now) several.now }
 {
     for value in several {
-        if is_one_of(value, values) {
+        if values.has(value) {
             return true;
         }
     }
     false
 }
 
-fn has_one_of(held: Held<'_>, values: &[Scalar]) -> bool
+fn has_one_of(held: Held<'_>, values: &ValueSet) -> bool
     ensures { result ≡ list_any (spec.is_one_of values.now) (seen held.entry) }
 {
     match held {
         Held::Nothing => false,
-        Held::Number(number) => is_one_of(&Scalar::Whole(number), values),
-        Held::One(value) => is_one_of(value, values),
+        Held::Number(number) => values.has(&Scalar::Whole(number)),
+        Held::One(value) => values.has(value),
         Held::Many(several) => is_any_one_of(several, values),
     }
 }
@@ -130,9 +120,7 @@ pub fn matches(query: &Query, schema: &Schema, row: &Row) -> bool
         Query::All => true,
         Query::Nothing => false,
         Query::Has { fields } => has_any(schema, row, fields.as_slice()),
-        Query::OneOf { field, values } => {
-            has_one_of(held_at(schema, row, *field), values.as_slice())
-        }
+        Query::OneOf { field, values } => has_one_of(held_at(schema, row, *field), values),
         Query::Between { field, low, high } => has_within(held_at(schema, row, *field), low, high),
         Query::Bool {
             must,
@@ -140,9 +128,13 @@ pub fn matches(query: &Query, schema: &Schema, row: &Row) -> bool
             must_not,
             least,
         } => {
-            do_all_match(must.as_slice(), schema, row)
-                && !does_any_match(must_not.as_slice(), schema, row)
-                && *least <= count_matching(should.as_slice(), schema, row)
+            if !do_all_match(must.as_slice(), schema, row) {
+                return false;
+            }
+            if does_any_match(must_not.as_slice(), schema, row) {
+                return false;
+            }
+            do_enough_match(should.as_slice(), schema, row, *least)
         }
     }
 }
@@ -171,15 +163,19 @@ fn does_any_match(queries: &[Query], schema: &Schema, row: &Row) -> bool
     false
 }
 
+/// Whether so many of the queries match. Those behind the last one that is needed aren't tried.
 #[cycle(matching)]
-fn count_matching(queries: &[Query], schema: &Schema, row: &Row) -> u64
-    ensures { result ≡ count_true (map (λ q. matches_row q schema.now row.now) queries.now) }
+fn do_enough_match(queries: &[Query], schema: &Schema, row: &Row, least: u64) -> bool
+    ensures { result ≡ nat_le least (count_true (map (λ q. matches_row q schema.now row.now) queries.now)) }
 {
-    let mut found = 0;
+    let mut wanted = least;
     for query in queries {
+        if wanted == 0 {
+            return true;
+        }
         if matches(query, schema, row) {
-            found += 1;
+            wanted -= 1;
         }
     }
-    found
+    wanted == 0
 }

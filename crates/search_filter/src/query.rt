@@ -1,4 +1,5 @@
 //! Queries as they are asked.
+use crate::value_set::ValueSet;
 use row_cells::Scalar;
 use sqlite_items::Items;
 
@@ -24,7 +25,7 @@ pub enum Query {
     /// A row that has one of these values at the field.
     OneOf {
         field: u32,
-        values: Items<Scalar>,
+        values: ValueSet,
     },
     /// A row of whose values at the field one is within both ends.
     Between {

@@ -6,8 +6,9 @@ ghost use Rattle.search_filter.specs.Splitting.{split_of};
 
 use crate::query::{Bound, Query};
 use crate::tellers::{Teller, is_presence_told, teller_at};
+use crate::value_set::ValueSet;
 use edge_face::{LAST_INSTANT, NoMemory};
-use row_cells::{Scalar, Schema, copy_scalar, copy_scalars};
+use row_cells::{Scalar, Schema, copy_scalar};
 use sqlite_items::Items;
 use std::alloc::Global;
 
@@ -144,15 +145,15 @@ fn split_one_of(
     alloc: Global,
     schema: &Schema,
     field: u32,
-    values: &[Scalar],
+    values: &ValueSet,
 ) -> Result<Option<Split>, NoMemory>
     ensures { IfOk result (λ split. split ≡ split_of schema.now (Query.OneOf field values.now)) }
 {
     match teller_at(schema, field) {
-        Teller::Time => Ok(timed_one(values)),
+        Teller::Time => Ok(timed_one(values.as_slice())),
         Teller::Key => Ok(Some(timeless(Query::OneOf {
             field,
-            values: copy_scalars(alloc, values)?,
+            values: values.copy(alloc)?,
         }))),
         Teller::Cell => Ok(None),
     }
@@ -256,7 +257,7 @@ pub fn split_query(alloc: Global, query: &Query, schema: &Schema) -> Result<Opti
         Query::All => Ok(Some(timeless(Query::All))),
         Query::Nothing => Ok(Some(timeless(Query::Nothing))),
         Query::Has { fields } => split_has(alloc, schema, fields.as_slice()),
-        Query::OneOf { field, values } => split_one_of(alloc, schema, *field, values.as_slice()),
+        Query::OneOf { field, values } => split_one_of(alloc, schema, *field, values),
         Query::Between { field, low, high } => split_between(alloc, schema, *field, low, high),
         Query::Bool {
             must,

@@ -11,11 +11,11 @@ use crate::faults::Faults;
 use crate::limits::MOST_TERMS;
 use crate::places::{Placed, Reader, find};
 use crate::query::Query;
+use crate::value_set::ValueSet;
 use edge_face::NoMemory;
 use json_walk::only_member;
 use row_cells::{FieldType, Scalar};
 use serde_json::Value;
-use sqlite_items::Items;
 use ts_mapping::read_scalar;
 
 /// As which type the values of a field are read.
@@ -41,10 +41,10 @@ fn put_value(
     kind: FieldType,
     path: &str,
     value: &Value,
-    values: &mut Items<Scalar>,
+    values: &mut Vec<Scalar>,
     faults: &mut Faults,
 ) -> Result<(), NoMemory>
-    ensures values { OnOk result (values.new ≡ values.old ++ (spec.value_in kind path.now (view value.now)).value) }
+    ensures values { OnOk result (values.new.items ≡ values.old.items ++ (spec.value_in kind path.now (view value.now)).value) }
     ensures faults { OnOk result (faults.new ≡ worst_with faults.old (spec.value_in kind path.now (view value.now)).faults) }
 {
     match read_scalar(reader.alloc, kind_asked(kind), value)? {
@@ -60,10 +60,10 @@ fn put_values(
     kind: FieldType,
     path: &str,
     items: &[Value],
-    values: &mut Items<Scalar>,
+    values: &mut Vec<Scalar>,
     faults: &mut Faults,
 ) -> Result<(), NoMemory>
-    ensures values { OnOk result (values.new ≡ values.old ++ (spec.values_in kind path.now (items_view items.now)).value) }
+    ensures values { OnOk result (values.new.items ≡ values.old.items ++ (spec.values_in kind path.now (items_view items.now)).value) }
     ensures faults { OnOk result (faults.new ≡ worst_with faults.old (spec.values_in kind path.now (items_view items.now)).faults) }
 {
     for item in items {
@@ -100,11 +100,11 @@ fn term_at(
     let Some(placed) = placed else {
         return Ok(Query::Nothing);
     };
-    let mut values = Items::new(reader.alloc);
+    let mut values = Vec::new(reader.alloc);
     put_value(reader, placed.kind, path, value, &mut values, faults)?;
     Ok(Query::OneOf {
         field: placed.field,
-        values,
+        values: ValueSet::new(values)?,
     })
 }
 
@@ -138,11 +138,11 @@ fn terms_at(
     let Some(placed) = placed else {
         return Ok(Query::Nothing);
     };
-    let mut values = Items::new(reader.alloc);
+    let mut values = Vec::new(reader.alloc);
     put_values(reader, placed.kind, path, items, &mut values, faults)?;
     Ok(Query::OneOf {
         field: placed.field,
-        values,
+        values: ValueSet::new(values)?,
     })
 }
 

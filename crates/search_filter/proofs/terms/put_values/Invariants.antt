@@ -10,6 +10,6 @@ invariant-loop-item l =
     let all = values_in l.kind l.path (items_view l.items) in
     let rest = values_in l.kind l.path (items_view (drop l.item-index l.items)) in
     record {
-      values : l.values ++ rest.value ≡ l.initial.values ++ all.value;
+      values : l.values.items ++ rest.value ≡ l.initial.values.items ++ all.value;
       faults : worst_with l.faults rest.faults ≡ worst_with l.initial.faults all.faults;
     }
