@@ -1,3 +1,13 @@
 pub mod ReadingSteps
 pub mod LevelSteps
 pub mod StateSteps
+pub mod ValueSteps
+pub mod MergeSteps
+pub mod AnswerSteps
+pub mod KeySteps
+pub mod OrderSteps
+pub mod ToldSteps
+pub mod RiseSteps
+pub mod RiseTotals
+pub mod IncreaseSteps
+pub mod FinishSteps

@@ -28,7 +28,7 @@ pub each-append : {A : Type 0} (P : A → Type 0) (xs ys : List A) → Each P xs
 each-append P [] ys first second = second
 each-append P (x ∷ xs) ys first second = (first.0, each-append P xs ys first.1 second)
 
-total-append : {F : Type 0} {none : F} {merge : F → F → F} {reach : F → ℕ} (laws : FoldLaws none merge reach) (value : Row → F) (xs ys : List Row) → total_over none merge value (xs ++ ys) ≡ merge (total_over none merge value ys) (total_over none merge value xs)
+pub total-append : {F : Type 0} {none : F} {merge : F → F → F} {reach : F → ℕ} (laws : FoldLaws none merge reach) (value : Row → F) (xs ys : List Row) → total_over none merge value (xs ++ ys) ≡ merge (total_over none merge value ys) (total_over none merge value xs)
 total-append {none = none} {merge = merge} laws value [] ys = sym (laws.none_right (total_over none merge value ys))
 total-append {none = none} {merge = merge} laws value (x ∷ xs) ys =
     ap (λ t. merge t (value x)) (total-append laws value xs ys) ∙ laws.assoc (total_over none merge value ys) (total_over none merge value xs) (value x)

@@ -9,10 +9,13 @@ pub mod JoinLaws
 pub mod Kinds
 pub mod Laws
 pub mod Limits
+pub mod Merges
 pub mod MetricLaws
 pub mod Metrics
 pub mod PickLaws
 pub mod Reading
+pub mod Repeats
+pub mod Rises
 pub mod Samples
 pub mod Seen
 pub mod SeenParts
@@ -20,7 +23,9 @@ pub mod SeenWrongs
 pub mod SetLaws
 pub mod Sets
 pub mod Stands
+pub mod States
 pub mod Tallies
 pub mod TallyLaws
+pub mod Told
 pub mod WholeLaws
 pub mod WidenLaws

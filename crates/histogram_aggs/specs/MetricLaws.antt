@@ -1,5 +1,5 @@
 -- What metrics in memory tell is what is answered of samples.
-use Rattle.std.specs.Prelude.{◌≡◌, ℕ, ℤ, true, false, List, Option, Some, None}
+use Rattle.std.specs.Prelude.{◌≡◌, ℕ, ℤ, Bool, true, false, List, Option, Some, None, if◌then◌else◌}
 use Rattle.std.proofs.Common.{refl, ap, ◌∙◌, sym}
 use Rattle.fold_law.specs.declared.measures.Gauge.{Gauge as GaugeFold}
 use Rattle.row_cells.specs.declared.schemas.FieldType.{FieldType}
@@ -11,7 +11,7 @@ use Rattle.histogram_aggs.specs.declared.aggs.AggKind.TheVariants.{Min, Max, Sum
 use Rattle.histogram_aggs.specs.Answers.{Placed, Results, answer_of, metric_tree, type_shown}
 use Rattle.histogram_aggs.specs.Metrics.{gauge_all, gauge_metric, metric_by}
 use Rattle.histogram_aggs.specs.Samples.{Sample}
-use Rattle.histogram_aggs.specs.Tallies.{is_measure, is_date, tally_over, told}
+use Rattle.histogram_aggs.specs.Tallies.{is_measure, is_date, is_dated, tally_over, told}
 
 pub told_is : (kind : AggKind) (role : Role) (place : ℕ) (xs : List Sample) → is_measure kind ≡ true → told kind (tally_over kind role place xs) ≡ metric_by kind role place xs
 told_is Min Time place xs is = refl
@@ -66,6 +66,51 @@ plain_tree ValueCount type (Some v) is = refl
 plain_tree Increase type (Some v) is = refl
 plain_tree (Terms size by_key) type (Some v) is = refl
 plain_tree (DateHistogram interval least) type (Some v) is = refl
+
+date_tree : (kind : AggKind) (type : FieldType) (v : Option ℤ) → is_dated kind type ≡ true → metric_tree (Some Date) v ≡ metric_tree (type_shown kind type) v
+date_tree Min Date v is = refl
+date_tree Max Date v is = refl
+date_tree Min Keyword v is = cc
+date_tree Min Long v is = cc
+date_tree Min Integer v is = cc
+date_tree Min Short v is = cc
+date_tree Min Byte v is = cc
+date_tree Min Boolean v is = cc
+date_tree Min Aggregate v is = cc
+date_tree Max Keyword v is = cc
+date_tree Max Long v is = cc
+date_tree Max Integer v is = cc
+date_tree Max Short v is = cc
+date_tree Max Byte v is = cc
+date_tree Max Boolean v is = cc
+date_tree Max Aggregate v is = cc
+date_tree Sum type v is = cc
+date_tree ValueCount type v is = cc
+date_tree Increase type v is = cc
+date_tree (Terms size by_key) type v is = cc
+date_tree (DateHistogram interval least) type v is = cc
+
+undated_tree : (kind : AggKind) (type : FieldType) (v : Option ℤ) → is_dated kind type ≡ false → metric_tree None v ≡ metric_tree (type_shown kind type) v
+undated_tree Min type v is = plain_tree Min type v is
+undated_tree Max type v is = plain_tree Max type v is
+undated_tree Sum type None is = refl
+undated_tree Sum type (Some v) is = refl
+undated_tree ValueCount type None is = refl
+undated_tree ValueCount type (Some v) is = refl
+undated_tree Increase type None is = refl
+undated_tree Increase type (Some v) is = refl
+undated_tree (Terms size by_key) type None is = refl
+undated_tree (Terms size by_key) type (Some v) is = refl
+undated_tree (DateHistogram interval least) type None is = refl
+undated_tree (DateHistogram interval least) type (Some v) is = refl
+
+-- with the text of a date or without
+pub tree_by_date : (kind : AggKind) (type : FieldType) (v : Option ℤ) → metric_tree (type_shown kind type) v ≡ (if is_dated kind type then metric_tree (Some Date) v else metric_tree None v)
+tree_by_date kind type v = by_test (is_dated kind type) refl
+  where
+    by_test : (b : Bool) → is_dated kind type ≡ b → metric_tree (type_shown kind type) v ≡ (if b then metric_tree (Some Date) v else metric_tree None v)
+    by_test true is = sym (date_tree kind type v is)
+    by_test false is = sym (undated_tree kind type v is)
 
 -- of a gauge, whatever the samples are that have it
 pub metric_of_gauge : (kind : AggKind) (gauge : GaugeFold) (below : List Sample → Results) (f : Placed) (xs : List Sample) → is_measure kind ≡ true → is_date f.field.kind ≡ false → f.field.role ≡ GaugeRole → gauge_all f.place xs ≡ gauge →

@@ -82,3 +82,9 @@ is_date Short = false
 is_date Byte = false
 is_date Boolean = false
 is_date Aggregate = false
+
+-- a metric that is shown with the text of a date
+abbrev pub is_dated : AggKind → FieldType → Bool
+is_dated Min type = is_date type
+is_dated Max type = is_date type
+is_dated kind type = false

@@ -1,5 +1,13 @@
-//! What holds of aggregations, for the layers that fold rows before they offer them.
+//! Laws, as calls without effect: the limit, and what holds for the layers that fold rows before they offer them.
+ghost use Rattle.std.specs.Prelude.{◌≡◌};
 ghost use Rattle.histogram_aggs.specs.Laws.{AggsAlike, AlikeAppend, AlikeChosen, AlikeDown, AlikeInOrder, AlikeWiden, AlikeWider, IndicesAgree, QueriedAlike};
+ghost use Rattle.histogram_aggs.specs.Limits.{most_buckets};
+ghost use Rattle.histogram_aggs.specs.declared.limits.TheConstants.{MOST_BUCKETS};
+
+/// The constant is the limit of the definitions.
+pub fn limits_are_told()
+    ensures { MOST_BUCKETS ≡ most_buckets }
+{}
 
 /// Aggregations by series and whole buckets answer lists that are alike with the same.
 pub fn aggs_alike()

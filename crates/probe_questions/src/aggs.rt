@@ -77,7 +77,7 @@ fn put_aggs(aggs: &[Agg], trial: &mut Trial) {
     trial.close("]}");
 }
 
-fn put_error(error: AggError, trial: &mut Trial) {
+pub fn put_error(error: AggError, trial: &mut Trial) {
     match error {
         AggError::Shape => trial.refused("Shape"),
         AggError::WrongField { path, kind } => {

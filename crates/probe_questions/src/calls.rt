@@ -1,5 +1,5 @@
 //! Which function makes the call of a case.
-use crate::{aggs, pages, queries};
+use crate::{aggs, pages, queries, replies};
 use probe_case::Trial;
 use serde_json::Value;
 
@@ -11,6 +11,7 @@ fn of_questions(call: &str, case: &Value, trial: &mut Trial) -> Option<bool> {
         "too_deep" => pages::depth(case, trial)?,
         "read_aggs" => aggs::read(case, trial)?,
         "metric_out" => aggs::metric(case, trial)?,
+        "aggregate" => replies::reply(case, trial)?,
         _ => return Some(false),
     }
     Some(true)

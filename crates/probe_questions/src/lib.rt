@@ -5,5 +5,6 @@ mod aggs;
 mod calls;
 mod pages;
 mod queries;
+mod replies;
 
 pub use calls::answer_questions;

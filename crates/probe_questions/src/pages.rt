@@ -1,6 +1,4 @@
 //! Pages of the rows of documents.
-ghost use Rattle.std.specs.Prelude.{◌≤◌};
-
 use hits_page::{Page, PageError, Pager, Picked, SortKey, is_too_deep, read_sort};
 use json_walk::whole;
 use probe_case::{Trial, list_or_none};
@@ -99,13 +97,6 @@ fn put_offered(pager: Pager, schema: &Schema, rows: &[Row], case: &Value, trial:
     }
 }
 
-/// A number from 0 to 2^32.
-fn bound(number: i64) -> u64
-    ensures { result ≤ 4_294_967_296 }
-{
-    number.unsigned_abs().min(4_294_967_296)
-}
-
 fn put_sorted(
     sort: Items<SortKey>,
     schema: &Schema,
@@ -113,8 +104,8 @@ fn put_sorted(
     case: &Value,
     trial: &mut Trial,
 ) {
-    let from = bound(trial.number(case, "from"));
-    let size = bound(trial.number(case, "size"));
+    let from = trial.number(case, "from").unsigned_abs();
+    let size = trial.number(case, "size").unsigned_abs();
     match Pager::new(trial.alloc, sort, from, size) {
         Ok(pager) => put_offered(pager, schema, rows, case, trial),
         Err(error) => put_error(error, trial),

@@ -2,7 +2,7 @@ use Rattle.std.proofs.Common.{◌∙◌, ap, sym}
 use Rattle.std.specs.Option.{option_copied}
 use Rattle.row_cells.specs.declared.rows.Cell.TheVariants.{Absent}
 use Rattle.histogram_aggs.proofs.StateSteps.{at_or, none_or}
-use Rattle.histogram_aggs.proofs.state.row_tally.Goals as goal
+use Rattle.histogram_aggs.proofs.offers.row_tally.Goals as goal
 
 pub returns-in-Some : goal.returns-in-Some
 returns-in-Some c =

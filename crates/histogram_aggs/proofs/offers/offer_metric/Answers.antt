@@ -2,7 +2,7 @@ use Rattle.std.proofs.Common.{◌≡◌, ◌∙◌, ap, sym, Some}
 use Rattle.std.specs.Prelude.{option_map}
 use Rattle.histogram_aggs.specs.Reading.{field_at}
 use Rattle.histogram_aggs.proofs.StateSteps.{metric_more}
-use Rattle.histogram_aggs.proofs.state.offer_metric.Goals as goal
+use Rattle.histogram_aggs.proofs.offers.offer_metric.Goals as goal
 
 pub returns : goal.returns
 returns c start xs =
