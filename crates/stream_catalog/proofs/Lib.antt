@@ -37,3 +37,9 @@ mod FactChangeLemmas
 mod TakenLemmas
 mod MappedLemmas
 mod CreationLemmas
+mod MemberLemmas
+mod RolloverLemmas
+mod BesideLemmas
+mod HeldLemmas
+mod HeldChangeLemmas
+mod HeldGoneLemmas

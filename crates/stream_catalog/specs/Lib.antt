@@ -14,6 +14,8 @@ pub mod FactChanges
 pub mod Places
 pub mod Mapped
 pub mod Sound
+pub mod Beside
+pub mod Calls
 pub mod FactTests
 pub mod Laws
 pub mod FoundLaws

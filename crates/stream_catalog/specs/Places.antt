@@ -1,5 +1,5 @@
 -- Where names stand in lists by names, for private clauses.
-use Rattle.std.specs.Prelude.{◌≡◌, ℕ, suc, ◌<◌, ◌≤◌, List, [], ◌∷◌, length, slice_index_or, slice_set, Some, None, if◌then◌else◌}
+use Rattle.std.specs.Prelude.{◌≡◌, ℕ, suc, ◌<◌, ◌≤◌, Bool, List, [], ◌∷◌, drop, filter, length, slice_index_or, slice_set, Some, None, if◌then◌else◌}
 use Rattle.std.specs.List.{insert, remove}
 use Rattle.std.specs.Ordering.{is_lt, nat_cmp}
 use Rattle.std.specs.Cmp.Lexicographic.{slice_cmp}
@@ -23,3 +23,7 @@ pub record IsAbsentAt {A : Type 0} (name : A → List ℕ) (n : List ℕ) (xs : 
   pub within : at ≤ length xs
   pub none : found_by name n xs ≡ None
   pub put : (x : A) → name x ≡ n → inserted name x xs ≡ insert xs at x
+
+-- from a place on a test keeps all
+abbrev pub AllKept : {A : Type 0} → (A → Bool) → List A → ℕ → Type 0
+AllKept p xs m = filter p (drop m xs) ≡ drop m xs

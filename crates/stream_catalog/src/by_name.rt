@@ -1,11 +1,12 @@
 //! Things that have names, held in the order of their names.
-ghost use Rattle.std.specs.Prelude.{◌≡◌, ◌<◌, ◌≤◌, [], map, length, true, false, None, IfOk, IfErr, OnOk, OnErr};
+ghost use Rattle.std.specs.Prelude.{◌≡◌, ◌<◌, ◌≤◌, [], filter, map, length, true, false, None, IfOk, IfErr, OnOk, OnErr};
 ghost use Rattle.std.specs.Option.{option_copied, is_some};
 ghost use Rattle.downsample_fold.specs.Laws.{KeysAscend};
 ghost use Rattle.stream_catalog.specs.Lists.{found_by, inserted, updated, without};
 ghost use Rattle.stream_catalog.specs.Places.{IsAbsentAt, IsHereAt, place_of};
 
-use crate::named::{Change, Named};
+use crate::copies::{Copied, copy_all};
+use crate::named::{Change, EachChange, Named, Test};
 use edge_face::{NoMemory, bytes_order};
 use std::alloc::Global;
 use std::marker::Model;
@@ -78,6 +79,22 @@ fn search<T: Named>(items: &[T], name: &[u8]) -> Result<usize, usize>
     }
 }
 
+/// Keeps those of which a test holds.
+pub(crate) fn keep_where<T: Drop, P: Test<T>>(items: &mut Vec<T>, test: &P)
+    ensures { items.new.items ≡ filter (P.test test.now) items.old.items }
+{
+    items.retain(|item| test.holds(item));
+}
+
+/// Changes each of some.
+fn change_all<T: Named, C: EachChange<T>>(items: &mut Vec<T>, change: &C)
+    ensures { items.new.items ≡ map (C.each_changed change.now) items.old.items }
+{
+    for at in 0..items.len() {
+        change.apply_to(&mut items[at]);
+    }
+}
+
 impl<T: Named> ByName<T> {
     pub(crate) fn new(alloc: Global) -> ByName<T>
         ensures { result ≡ [] }
@@ -146,5 +163,29 @@ impl<T: Named> ByName<T> {
             }
             Err(_) => false,
         }
+    }
+
+    /// Keeps those of which a test holds.
+    pub(crate) fn keep<P: Test<T>>(&mut self, test: &P)
+        ensures { self.new ≡ filter (P.test test.now) self.old }
+    {
+        keep_where(&mut self.items, test);
+    }
+
+    /// Changes each.
+    pub(crate) fn change_each<C: EachChange<T>>(&mut self, change: &C)
+        ensures { self.new ≡ map (C.each_changed change.now) self.old }
+    {
+        change_all(&mut self.items, change);
+    }
+}
+
+impl<T: Named + Copied> ByName<T> {
+    /// A copy of all.
+    pub(crate) fn copied(&self, alloc: Global) -> Result<ByName<T>, NoMemory>
+        ensures { IfOk result (λ copy. copy ≡ self.now) }
+    {
+        let items = copy_all(alloc, self.items.as_slice())?;
+        Ok(ByName { items })
     }
 }

@@ -8,7 +8,6 @@ ghost use Rattle.stream_catalog.specs.Names.{is_taken};
 use crate::by_name::ByName;
 use crate::facts::{HeldIndex, TaskFacts};
 use crate::held_streams::HeldStream;
-use sqlite_items::Items;
 use std::alloc::Global;
 use std::marker::Model;
 use ts_mapping::Template;
@@ -19,7 +18,7 @@ pub(crate) struct CatalogFacts {
     pub(crate) templates: ByName<Template>,
     pub(crate) streams: ByName<HeldStream>,
     pub(crate) indices: ByName<HeldIndex>,
-    pub(crate) tasks: Items<TaskFacts>,
+    pub(crate) tasks: Vec<TaskFacts>,
 }
 
 impl Model for CatalogFacts {
@@ -27,7 +26,7 @@ impl Model for CatalogFacts {
 
     ghost Value = { PlainFacts };
 
-    ghost view = { λ f. record { templates = f.templates; streams = f.streams; indices = f.indices; tasks = f.tasks } };
+    ghost view = { λ f. record { templates = f.templates; streams = f.streams; indices = f.indices; tasks = f.tasks.items } };
 }
 
 /// Whether a fold under way is going to have a name.
@@ -50,7 +49,7 @@ impl CatalogFacts {
             templates: ByName::new(alloc),
             streams: ByName::new(alloc),
             indices: ByName::new(alloc),
-            tasks: Items::new(alloc),
+            tasks: Vec::new(alloc),
         }
     }
 

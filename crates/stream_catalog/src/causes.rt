@@ -47,3 +47,51 @@ pub(crate) fn field_changed(alloc: Global, path: &str, index: &str) -> CatalogEr
         Err(_) => CatalogError::NoMemory,
     }
 }
+
+pub(crate) fn not_member(alloc: Global, stream: &str, index: &str) -> CatalogError
+    ensures { IsCause (Some (Refusal.NotMember stream.now index.now)) result }
+{
+    let Ok(stream) = Text::new(alloc, stream) else {
+        return CatalogError::NoMemory;
+    };
+    match Text::new(alloc, index) {
+        Ok(index) => CatalogError::Refused(Refusal::NotMember { stream, index }),
+        Err(_) => CatalogError::NoMemory,
+    }
+}
+
+pub(crate) fn is_member(alloc: Global, stream: &str, index: &str) -> CatalogError
+    ensures { IsCause (Some (Refusal.IsMember stream.now index.now)) result }
+{
+    let Ok(stream) = Text::new(alloc, stream) else {
+        return CatalogError::NoMemory;
+    };
+    match Text::new(alloc, index) {
+        Ok(index) => CatalogError::Refused(Refusal::IsMember { stream, index }),
+        Err(_) => CatalogError::NoMemory,
+    }
+}
+
+pub(crate) fn other_mapping(alloc: Global, stream: &str, index: &str) -> CatalogError
+    ensures { IsCause (Some (Refusal.OtherMapping stream.now index.now)) result }
+{
+    let Ok(stream) = Text::new(alloc, stream) else {
+        return CatalogError::NoMemory;
+    };
+    match Text::new(alloc, index) {
+        Ok(index) => CatalogError::Refused(Refusal::OtherMapping { stream, index }),
+        Err(_) => CatalogError::NoMemory,
+    }
+}
+
+pub(crate) fn bad_window(alloc: Global, stream: &str, index: &str) -> CatalogError
+    ensures { IsCause (Some (Refusal.BadWindow stream.now index.now)) result }
+{
+    let Ok(stream) = Text::new(alloc, stream) else {
+        return CatalogError::NoMemory;
+    };
+    match Text::new(alloc, index) {
+        Ok(index) => CatalogError::Refused(Refusal::BadWindow { stream, index }),
+        Err(_) => CatalogError::NoMemory,
+    }
+}

@@ -30,7 +30,7 @@ fn first_start(now: i64, look_back: i64) -> i64
 }
 
 /// A new backing index, but for its rows, which aren't there yet.
-fn make_index(
+pub(crate) fn make_index(
     alloc: Global,
     name: &Text,
     template: &Template,

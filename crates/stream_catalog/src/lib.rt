@@ -4,22 +4,33 @@
 
 mod answers;
 mod by_name;
+mod catalog;
+mod catalog_changes;
 mod catalog_facts;
+mod catalog_removals;
+mod catalog_streams;
 mod causes;
 mod changes;
 mod choosing;
+mod copies;
 mod creations;
 mod facts;
 mod found_laws;
+mod held_rows;
 mod held_streams;
 mod laws;
 mod limits;
 mod mapped;
+mod members;
+mod moves;
 mod named;
 mod refusals;
+mod removals;
+mod rollovers;
 mod row_laws;
 
 pub use answers::{CatalogError, Move, PickError, Ran, Refusal, Rolled, What};
+pub use catalog::Catalog;
 pub use facts::{HeldIndex, StreamFacts, TaskFacts};
 pub use found_laws::streams_are_found;
 pub use held_streams::HeldStream;

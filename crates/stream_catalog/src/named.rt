@@ -1,8 +1,10 @@
 //! What has a name.
-ghost use Rattle.std.specs.Prelude.{◌≡◌, ℕ, List};
+ghost use Rattle.std.specs.Prelude.{◌≡◌, ℕ, Bool, List};
+ghost use Rattle.stream_catalog.specs.Beside.{rows_name};
 ghost use Rattle.stream_catalog.specs.Lists.{facts_name, stream_name, template_name};
 
 use crate::facts::HeldIndex;
+use crate::held_rows::HeldRows;
 use crate::held_streams::HeldStream;
 use edge_face::Text;
 use ts_mapping::Template;
@@ -25,6 +27,24 @@ pub(crate) trait Change<T: Named>: Drop {
     ghost keeps_name: { (change : Self) (x : T) → T.name_of (changed change x) ≡ T.name_of x };
 }
 
+/// A change of each of many things, which leaves their names.
+pub(crate) trait EachChange<T: Named> {
+    ghost each_changed: { Self → T → T };
+
+    fn apply_to(&self, item: &mut T)
+        ensures { item.new ≡ each_changed self.now item.old };
+
+    ghost keeps_names: { (change : Self) (x : T) → T.name_of (each_changed change x) ≡ T.name_of x };
+}
+
+/// A test of things.
+pub(crate) trait Test<T> {
+    ghost test: { Self → T → Bool };
+
+    fn holds(&self, item: &T) -> bool
+        ensures { result ≡ test self.now item.now };
+}
+
 impl Named for Template {
     ghost name_of = { template_name };
 
@@ -43,6 +63,14 @@ impl Named for HeldStream {
 
 impl Named for HeldIndex {
     ghost name_of = { facts_name };
+
+    fn name(&self) -> &Text {
+        &self.name
+    }
+}
+
+impl Named for HeldRows {
+    ghost name_of = { rows_name };
 
     fn name(&self) -> &Text {
         &self.name

@@ -8,6 +8,7 @@ ghost use Rattle.row_cells.specs.Each.{Each};
 ghost use Rattle.ts_mapping.specs.Facts.{IsMapping, IsTemplate};
 ghost use Rattle.time_text.specs.Instant.{IsInstant};
 ghost use Rattle.stream_catalog.specs.Indices.{block_refusal, delete_refusal, downsample_refusal, write_fault};
+ghost use Rattle.stream_catalog.specs.Lists.{facts_named, stream_named};
 ghost use Rattle.stream_catalog.specs.Names.{template_for as chosen};
 ghost use Rattle.stream_catalog.specs.Streams as spec;
 ghost use Rattle.stream_catalog.specs.Streams.{IsCause, changed_field, create_refusal, first_name, named_refusal, rolled_names, rollover_refusal, template_refusal};
@@ -16,6 +17,7 @@ use crate::answers::{CatalogError, Refusal, Rolled, What};
 use crate::catalog_facts::CatalogFacts;
 use crate::causes::{field_changed, is_write_index, name_taken, no_such_name};
 use crate::choosing::template_for;
+use crate::facts::HeldIndex;
 use crate::held_streams::HeldStream;
 use crate::limits::{MOST_INDICES, MOST_STREAMS, MOST_TEMPLATES, is_full};
 use crate::mapped::first_changed;
@@ -31,6 +33,14 @@ use ts_mapping::Template;
 pub(crate) struct Creation<'a> {
     pub(crate) template: &'a Template,
     pub(crate) first: Text,
+}
+
+/// A stream that may be rolled over, with its write index and the names of that before and after.
+#[derive(Drop)]
+pub(crate) struct Rolling<'a> {
+    pub(crate) stream: &'a HeldStream,
+    pub(crate) write: &'a HeldIndex,
+    pub(crate) rolled: Rolled,
 }
 
 /// The name of a stream's write index.
@@ -178,16 +188,18 @@ impl CatalogFacts {
         }
     }
 
-    /// What refuses a new write index, or else the names of the write index before and after.
+    /// What refuses a new write index, or else the stream and its write index, and the names of that before and after.
     pub(crate) fn check_rollover(
         &self,
         alloc: Global,
         name: &Text,
         now: i64,
-    ) -> Result<Rolled, CatalogError>
+    ) -> Result<Rolling<'_>, CatalogError>
         requires { IsInstant now }
         ensures accepted { IfOk result (λ _. rollover_refusal self.now name.now now ≡ None) }
-        ensures names { IfOk result (λ rolled. rolled ≡ rolled_names self.now name.now now) }
+        ensures stream { IfOk result (λ r. stream_named name.now self.now.streams ≡ Some r.stream.now) }
+        ensures write { IfOk result (λ r. facts_named (spec.write_name r.stream.now) self.now.indices ≡ Some r.write.now) }
+        ensures names { IfOk result (λ r. r.rolled ≡ rolled_names self.now name.now now) }
         ensures refused { IfErr result (IsCause (rollover_refusal self.now name.now now)) }
     {
         let Some(stream) = self.stream(name.as_bytes()) else {
@@ -212,21 +224,26 @@ impl CatalogFacts {
         if self.is_taken(new.as_bytes()) {
             return Err(name_taken(alloc, new.as_str()));
         }
-        match Text::new(alloc, write_name(stream)) {
-            Ok(old) => Ok(Rolled { old, new }),
-            Err(_) => Err(CatalogError::NoMemory),
-        }
+        let Ok(old) = Text::new(alloc, write_name(stream)) else {
+            return Err(CatalogError::NoMemory);
+        };
+        Ok(Rolling {
+            stream,
+            write,
+            rolled: Rolled { old, new },
+        })
     }
 
-    /// What refuses a fold of an index under another name.
+    /// What refuses a fold of an index under another name, or else the index.
     pub(crate) fn check_downsample(
         &self,
         alloc: Global,
         source: &Text,
         target: &Text,
         by: Interval,
-    ) -> Result<(), CatalogError>
-        ensures accepted { OnOk result (downsample_refusal self.now source.now target.now by ≡ None) }
+    ) -> Result<&HeldIndex, CatalogError>
+        ensures found { IfOk result (λ i. facts_named source.now self.now.indices ≡ Some i.now) }
+        ensures accepted { IfOk result (λ _. downsample_refusal self.now source.now target.now by ≡ None) }
         ensures refused { IfErr result (IsCause (downsample_refusal self.now source.now target.now by)) }
     {
         let Some(index) = self.index(source.as_bytes()) else {
@@ -248,6 +265,6 @@ impl CatalogFacts {
         if is_full(MOST_INDICES, self.all_indices().len()) {
             return Err(CatalogError::Refused(Refusal::Limit(What::Indices)));
         }
-        Ok(())
+        Ok(index)
     }
 }
