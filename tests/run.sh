@@ -118,9 +118,10 @@ else
     echo "left out: the arguments of cases, which need python3"
 fi
 # Unproved programs are compiled with checks and without optimisation. There the longest sweeps over all bytes of segments and columns
-# and the scripts of 64 MiB are left out, which would take minutes, and behind the first of the scripts all but each seventh: a run sets
-# up a reader of a mebibyte, which takes a third of a second there.
-heavy='^{"call":"damaged_segment"|"changes":[0-9]{5}|"times":104857[67],'
+# and the scripts of 64 MiB are left out, indices of thousands of rows and answers of tens of thousands of buckets, which would take
+# minutes, and behind the first of the scripts all but each seventh: a run sets up a reader of a mebibyte, which takes a third of a
+# second there.
+heavy='^{"call":"damaged_segment"|"changes":[0-9]{5}|"times":104857[67],|"call":"index.*"times":[0-9]{4,}|"call":"aggregate".*("times":6553[0-9]|"fixed_interval":"1ms")'
 thin() {
     grep -Ev "$heavy" "$1" | awk -v some="$2" 'some && /^[^#].* => / && ++number > 30 && number % 7 { next } { print }'
 }
@@ -134,7 +135,7 @@ for table in tests/cases/*.cases; do
         left=$((left + $(cases_of "$table") - $(cases_of "$work/cases/$name")))
     fi
 done
-[ "$left" -eq 0 ] || echo "left out, unproved: $left cases: long sweeps over bytes, scripts of 64 MiB, most faults of scripts"
+[ "$left" -eq 0 ] || echo "left out, unproved: $left cases: long sweeps over bytes, scripts of 64 MiB, most faults of scripts, many rows, many buckets"
 # Random texts of instants, by Python's calendar.
 if command -v python3 > /dev/null; then
     python3 tests/calendar_cases.py 1 "$(is_proved tsds_probe && echo 20000 || echo 2000)" > "$work/cases/calendar.cases"

@@ -129,11 +129,27 @@ struct Asked<'a> {
     schema: &'a Schema,
     query: &'a Query,
     aggs: &'a Value,
+    /// Where the windows of rows begin, row by row.
+    starts: &'a [i64],
 }
 
-fn offer(alloc: Global, state: &mut AggState, asked: Asked<'_>, row: &Row) -> Result<(), NoMemory> {
+/// Where the window of a row begins, which a case needn't say.
+fn start_at(starts: &[i64], place: usize) -> i64 {
+    match starts.get(place) {
+        Some(start) => *start,
+        None => 0,
+    }
+}
+
+fn offer(
+    alloc: Global,
+    state: &mut AggState,
+    asked: Asked<'_>,
+    start: i64,
+    row: &Row,
+) -> Result<(), NoMemory> {
     if is_instant(row.time) && matches(asked.query, asked.schema, row) {
-        state.add_row(alloc, 0, asked.schema, row)?;
+        state.add_row(alloc, start, asked.schema, row)?;
     }
     Ok(())
 }
@@ -148,18 +164,25 @@ fn new_state(alloc: Global, asked: Asked<'_>) -> Result<AggState, AggError> {
     Ok(state)
 }
 
-fn state_of(alloc: Global, asked: Asked<'_>, rows: &[Row]) -> Result<AggState, AggError> {
+fn state_of(
+    alloc: Global,
+    asked: Asked<'_>,
+    rows: &[Row],
+    starts: &[i64],
+) -> Result<AggState, AggError> {
     let mut state = new_state(alloc, asked)?;
-    for row in rows {
-        offer(alloc, &mut state, asked, row)?;
+    for i in 0..rows.len() {
+        offer(alloc, &mut state, asked, start_at(starts, i), &rows[i])?;
     }
     Ok(state)
 }
 
 /// The state of the rows before a place, and that of the rows behind it, merged.
 fn merged(alloc: Global, asked: Asked<'_>, rows: &[Row], cut: usize) -> Result<AggState, AggError> {
-    let mut state = state_of(alloc, asked, part(rows, 0, cut))?;
-    let rest = state_of(alloc, asked, part(rows, cut, rows.len()))?;
+    let front = part(asked.starts, 0, cut);
+    let behind = part(asked.starts, cut, asked.starts.len());
+    let mut state = state_of(alloc, asked, part(rows, 0, cut), front)?;
+    let rest = state_of(alloc, asked, part(rows, cut, rows.len()), behind)?;
     state.merge(rest)?;
     Ok(state)
 }
@@ -172,7 +195,7 @@ fn reply_of(
 ) -> Result<Out, AggError> {
     let state = match cut {
         Some(cut) => merged(alloc, asked, rows, cut)?,
-        None => state_of(alloc, asked, rows)?,
+        None => state_of(alloc, asked, rows, asked.starts)?,
     };
     state.finish(alloc, asked.schema)
 }
@@ -214,6 +237,14 @@ fn cut_of(case: &Value, trial: &mut Trial) -> Option<usize> {
     Some(trial.number(case, "cut").unsigned_abs().min(1_000_000) as usize)
 }
 
+/// The starts of windows that a case says.
+fn starts_of(case: &Value, trial: &mut Trial) -> Vec<i64> {
+    if !has(case, "starts") {
+        return Vec::new(trial.alloc);
+    }
+    trial.numbers(case, "starts")
+}
+
 /// The query of a case, which takes all rows where there is none.
 fn query_of(schema: &Schema, case: &Value, trial: &mut Trial) -> Option<Query> {
     let Some(body) = case.get("query") else {
@@ -228,10 +259,12 @@ fn query_of(schema: &Schema, case: &Value, trial: &mut Trial) -> Option<Query> {
 fn ask(schema: &Schema, rows: &[Row], case: &Value, trial: &mut Trial) -> Option<()> {
     let aggs = case.get("aggs")?;
     let query = query_of(schema, case, trial)?;
+    let starts = starts_of(case, trial);
     let asked = Asked {
         schema,
         query: &query,
         aggs,
+        starts: starts.as_slice(),
     };
     let cut = cut_of(case, trial);
     match reply_of(trial.alloc, asked, rows, cut) {
