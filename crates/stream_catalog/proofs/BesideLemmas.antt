@@ -3,11 +3,13 @@ use Rattle.std.specs.Prelude.{◌≡◌, ℕ, Bool, true, false, cond, List, [],
 use Rattle.std.specs.Ordering.{is_le, nat_cmp}
 use Rattle.std.specs.Cmp.Lexicographic.{slice_cmp}
 use Rattle.std.proofs.Common.{refl, ap, ◌∙◌, sym, subst}
+use Rattle.row_cells.specs.declared.rows.Row.{Row}
 use Rattle.stream_catalog.specs.declared.facts.HeldIndex.{HeldIndex}
 use Rattle.stream_catalog.specs.declared.held_rows.HeldRows.{HeldRows}
 use Rattle.stream_catalog.specs.Beside.{AreBeside, AreRowsBy, catalog_of, index_of, joined, rows_name}
 use Rattle.stream_catalog.specs.Lists.{facts_name, found_by, index_name, inserted, updated}
 use Rattle.stream_catalog.specs.Plain.{PlainIndex, PlainFacts, facts_of}
+use Rattle.stream_catalog.specs.RowChanges.{IsChange}
 
 -- ---- the facts come back
 
@@ -117,13 +119,14 @@ module _ (n : List ℕ) (g : HeldIndex → HeldIndex) where
 
 -- ---- rows of one changed
 
--- rows in the place of others, of the same name and schema, and what becomes of the index that they stand by
-pub record IsChange (h : PlainIndex → PlainIndex) (old new : HeldRows) : Type 0 where
-  pub name : new.name ≡ old.name
-  pub schema : new.index.schema ≡ old.index.schema
-  pub rows : (i : HeldIndex) → index_of i new ≡ h (index_of i old)
+-- an index with other rows
+abbrev pub with_rows : (List Row → List Row) → PlainIndex → PlainIndex
+with_rows h i = record i { rows = h i.rows }
 
-module _ (n : List ℕ) (new : HeldRows) (h : PlainIndex → PlainIndex) where
+rows_changed : (h : List Row → List Row) (i : HeldIndex) (old new : HeldRows) → IsChange h old new → index_of i new ≡ with_rows h (index_of i old)
+rows_changed h i old new change = ap (λ rows. record { facts = i; rows = rows }) change.rows
+
+module _ (n : List ℕ) (new : HeldRows) (h : List Row → List Row) where
   -- a test of names is the same of rows and of their index
   same_test : (i : HeldIndex) (x : HeldRows) → AreRowsBy i x → bytes_eq (rows_name x) n ≡ bytes_eq (facts_name i) n
   same_test i x one = ap (λ m. bytes_eq m n) one.name
@@ -141,18 +144,18 @@ module _ (n : List ℕ) (new : HeldRows) (h : PlainIndex → PlainIndex) where
       by_test false later change = (all.0, later change)
 
   pub joined_changed : (is : List HeldIndex) (xs : List HeldRows) → AreBeside is xs → ((x : HeldRows) → found_by rows_name n xs ≡ Some x → IsChange h x new) →
-      joined is (updated rows_name n (λ x. new) xs) ≡ updated index_name n h (joined is xs)
+      joined is (updated rows_name n (λ x. new) xs) ≡ updated index_name n (with_rows h) (joined is xs)
   joined_changed [] [] all change = refl
   joined_changed [] (x ∷ xs) all change = absurd all
   joined_changed (i ∷ is) [] all change = absurd all
   joined_changed (i ∷ is) (x ∷ xs) all change =
       by_test (bytes_eq (rows_name x) n) (λ found. joined_changed is xs all.1 found) change
-      ∙ ap (λ b. if b then h (index_of i x) ∷ joined is xs else index_of i x ∷ updated index_name n h (joined is xs)) (same_test i x all.0)
+      ∙ ap (λ b. if b then with_rows h (index_of i x) ∷ joined is xs else index_of i x ∷ updated index_name n (with_rows h) (joined is xs)) (same_test i x all.0)
     where
-      by_test : (b : Bool) → (((y : HeldRows) → found_by rows_name n xs ≡ Some y → IsChange h y new) → joined is (updated rows_name n (λ y. new) xs) ≡ updated index_name n h (joined is xs))
+      by_test : (b : Bool) → (((y : HeldRows) → found_by rows_name n xs ≡ Some y → IsChange h y new) → joined is (updated rows_name n (λ y. new) xs) ≡ updated index_name n (with_rows h) (joined is xs))
           → ((y : HeldRows) → (if b then Some x else found_by rows_name n xs) ≡ Some y → IsChange h y new)
-          → joined (i ∷ is) (if b then new ∷ xs else x ∷ updated rows_name n (λ y. new) xs) ≡ (if b then h (index_of i x) ∷ joined is xs else index_of i x ∷ updated index_name n h (joined is xs))
-      by_test true later change = ap (λ p. p ∷ joined is xs) ((change x refl).rows i)
+          → joined (i ∷ is) (if b then new ∷ xs else x ∷ updated rows_name n (λ y. new) xs) ≡ (if b then with_rows h (index_of i x) ∷ joined is xs else index_of i x ∷ updated index_name n (with_rows h) (joined is xs))
+      by_test true later change = ap (λ p. p ∷ joined is xs) (rows_changed h i x new (change x refl))
       by_test false later change = ap (λ ps. index_of i x ∷ ps) (later change)
 
 -- ---- what is found

@@ -43,3 +43,6 @@ mod BesideLemmas
 mod HeldLemmas
 mod HeldChangeLemmas
 mod HeldGoneLemmas
+mod RowChangeLemmas
+mod HeldPutLemmas
+mod HeldRollLemmas

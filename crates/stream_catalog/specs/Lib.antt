@@ -16,6 +16,8 @@ pub mod Mapped
 pub mod Sound
 pub mod Beside
 pub mod Calls
+pub mod RowChanges
+pub mod NewRows
 pub mod FactTests
 pub mod Laws
 pub mod FoundLaws

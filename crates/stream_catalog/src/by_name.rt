@@ -15,7 +15,7 @@ use std::marker::Model;
 /// or taken out moves those behind it.
 #[derive(Drop)]
 pub(crate) struct ByName<T: Named> {
-    items: Vec<T>,
+    pub(crate) items: Vec<T>,
 }
 
 impl<T: Named> Model for ByName<T> {
@@ -62,7 +62,7 @@ fn find_place<T: Named>(items: &[T], name: &[u8]) -> usize
 }
 
 /// Where the one of a name is, or else where one of that name would be put.
-fn search<T: Named>(items: &[T], name: &[u8]) -> Result<usize, usize>
+pub(crate) fn search<T: Named>(items: &[T], name: &[u8]) -> Result<usize, usize>
     requires { KeysAscend (map T.name_of items.now) }
     ensures here { IfOk result (IsHereAt T.name_of name.now items.now) }
     ensures absent { IfErr result (IsAbsentAt T.name_of name.now items.now) }

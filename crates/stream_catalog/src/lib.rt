@@ -7,7 +7,9 @@ mod by_name;
 mod catalog;
 mod catalog_changes;
 mod catalog_facts;
+mod catalog_puts;
 mod catalog_removals;
+mod catalog_rollovers;
 mod catalog_streams;
 mod causes;
 mod changes;
@@ -28,6 +30,7 @@ mod refusals;
 mod removals;
 mod rollovers;
 mod row_laws;
+mod row_puts;
 
 pub use answers::{CatalogError, Move, PickError, Ran, Refusal, Rolled, What};
 pub use catalog::Catalog;
