@@ -307,7 +307,7 @@ fn answer_times(
     ensures err { IfErr result (λ e. (f : Placed) (xs : List Sample) → TimesStand (Stands fields.now (seen below.now)) (ms_of by) buckets.old xs
         → IsStop room.old (histogram_answer (results_below fields.now below.now) (ms_of by) least (Some f) xs).buckets e) }
 {
-    let mut outs = outs_for(alloc, buckets.len())?;
+    let mut outs = outs_for(alloc, buckets.len().min(*room as usize))?;
     if least == 0 {
         answer_all(alloc, below, fields, by, buckets, &mut outs, room)?;
     } else {
@@ -385,7 +385,7 @@ fn answer_values(
         → IsStop room.old (terms_answer (results_below fields.now below.now) size by_key (Some f) xs).buckets e) }
 {
     let kept = buckets.len().min(size as usize);
-    let mut outs = outs_for(alloc, kept)?;
+    let mut outs = outs_for(alloc, kept.min(*room as usize))?;
     let mut shown = in_order(alloc, by_key, buckets)?;
     answer_kept(alloc, below, fields, size, &mut shown, &mut outs, room)?;
     let other = other_documents(shown.as_slice())?;

@@ -1,7 +1,13 @@
 //! Laws, as calls without effect: the limit, and what holds for the layers that fold rows before they offer them.
-ghost use Rattle.std.specs.Prelude.{◌≡◌};
+ghost use Rattle.std.specs.Prelude.{◌≡◌, ℕ, true, List, [], ◌∷◌, ◌++◌};
+ghost use Rattle.downsample_fold.specs.Columns.{cell_of};
+ghost use Rattle.row_cells.specs.declared.schemas.Role.{Role};
+ghost use Rattle.histogram_aggs.specs.declared.aggs.AggKind.{AggKind};
 ghost use Rattle.histogram_aggs.specs.Laws.{AggsAlike, AlikeAppend, AlikeChosen, AlikeDown, AlikeInOrder, AlikeWiden, AlikeWider, IndicesAgree, QueriedAlike};
 ghost use Rattle.histogram_aggs.specs.Limits.{most_buckets};
+ghost use Rattle.histogram_aggs.specs.Metrics.{metric_by};
+ghost use Rattle.histogram_aggs.specs.Samples.{Sample};
+ghost use Rattle.histogram_aggs.specs.Tallies.{both_tallies, is_measure, tally_by, tally_over, told};
 ghost use Rattle.histogram_aggs.specs.declared.limits.TheConstants.{MOST_BUCKETS};
 
 /// The constant is the limit of the definitions.
@@ -30,4 +36,12 @@ pub fn alike_lists()
 pub fn indices_agree()
     ensures queried { QueriedAlike }
     ensures agree { IndicesAgree }
+{}
+
+/// The metric of two lists one behind the other is that of both, that of one row is the one of its time and cell, and
+/// what is told of it is what the kind asks of the rows.
+pub fn tallies_are_metrics()
+    ensures joined { (kind : AggKind) (role : Role) (place : ℕ) (xs ys : List Sample) → tally_over kind role place (xs ++ ys) ≡ both_tallies (tally_over kind role place xs) (tally_over kind role place ys) }
+    ensures single { (kind : AggKind) (role : Role) (place : ℕ) (s : Sample) → tally_over kind role place (s ∷ []) ≡ tally_by kind role s.row.time (cell_of place s.row) }
+    ensures told { (kind : AggKind) (role : Role) (place : ℕ) (xs : List Sample) → is_measure kind ≡ true → told kind (tally_over kind role place xs) ≡ metric_by kind role place xs }
 {}

@@ -26,7 +26,7 @@ mod wrongs;
 pub use agg_state::AggState;
 pub use aggs::{Agg, AggKind};
 pub use errors::AggError;
-pub use laws::{aggs_alike, alike_lists, indices_agree, limits_are_told};
+pub use laws::{aggs_alike, alike_lists, indices_agree, limits_are_told, tallies_are_metrics};
 pub use limits::MOST_BUCKETS;
 pub use metrics::{metric_out, told};
 pub use reading::read_aggs;

@@ -202,6 +202,7 @@ fn rise_of(series: &mut Series) -> Result<Option<Rise>, NoMemory>
     ensures { IfOk result (λ rise. (place : ℕ) (key : List ℕ) (xs : List Sample) → SeriesStands place key (get moment_cmp series.old) xs
         → rise ≡ (rise_of_series place xs key).0) }
 {
+    // without effect: it only tells the proof that the map is in order, on which `pop_first` below depends
     let _ = series.len();
     let mut all = None;
     while let Some((_, rise)) = series.pop_first() {
@@ -223,6 +224,7 @@ fn increase_in(rise: Option<Rise>) -> i128
 pub fn increase_of(rises: &mut Rises) -> Result<i128, NoMemory>
     ensures { IfOk result (λ sum. (place : ℕ) (xs : List Sample) → RisesStand place rises.old xs → sum ≡ metrics.increase_of place xs) }
 {
+    // without effect, as above
     let _ = rises.len();
     let mut sum: i128 = 0;
     while let Some((_, series)) = rises.pop_first() {
