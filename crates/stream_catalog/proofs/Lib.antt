@@ -46,3 +46,4 @@ mod HeldGoneLemmas
 mod RowChangeLemmas
 mod HeldPutLemmas
 mod HeldRollLemmas
+mod PickLemmas

@@ -28,10 +28,10 @@ use Rattle.row_cells.specs.Limits.{most_documents}
 
 -- ---- the row
 
-from_le : (a b : ℤ) → int_le a b ≡ true → a ≤ℤ b
+pub from_le : (a b : ℤ) → int_le a b ≡ true → a ≤ℤ b
 from_le a b is = le_z_yes {a = a} {b = b} (subst T (sym is) tt)
 
-from_lt : (a b : ℤ) → int_lt a b ≡ true → a <ℤ b
+pub from_lt : (a b : ℤ) → int_lt a b ≡ true → a <ℤ b
 from_lt a b is = lt_z_yes {a = a} {b = b} (subst T (sym is) tt)
 
 within_of : (facts : HeldIndex) (t : ℤ) → has_time facts t ≡ true → IsWithin facts.start facts.end t

@@ -1,5 +1,5 @@
 -- What calls of a catalogue in memory ask for and answer.
-use Rattle.std.specs.Prelude.{◌≡◌, ℕ, true, false, List, Option, None, Some, if◌then◌else◌}
+use Rattle.std.specs.Prelude.{◌≡◌, ℕ, true, false, List, Option, None, Some, Result, Ok, Err, if◌then◌else◌}
 use Rattle.row_cells.specs.declared.rows.Row.{Row}
 use Rattle.row_cells.specs.declared.schemas.Schema.{Schema}
 use Rattle.row_cells.specs.KeyedRows.{IsRowOf}
@@ -8,6 +8,7 @@ use Rattle.ts_mapping.specs.declared.templates.Template.{Template}
 use Rattle.tsds_index.specs.Spread.{Spread, rows_of}
 use Rattle.tsds_index.specs.declared.refusal.PutError.{PutError}
 use Rattle.tsds_index.specs.declared.refusal.PutError.TheVariants.{Duplicate, Full, NoMemory}
+use Rattle.stream_catalog.specs.declared.answers.PickError.{PickError}
 use Rattle.stream_catalog.specs.declared.facts.HeldIndex.{HeldIndex}
 use Rattle.stream_catalog.specs.Lists.{index_named, with_found}
 use Rattle.stream_catalog.specs.Plain.{PlainCatalog, PlainIndex}
@@ -49,3 +50,10 @@ abbrev pub IsPutCause : Option PutError → PutError → Type 0
 IsPutCause refusal Duplicate = refusal ≡ Some Duplicate
 IsPutCause refusal Full = refusal ≡ Some Full
 IsPutCause refusal NoMemory = refusal ≡ None
+
+-- ---- a member that is picked
+
+-- an index was picked, and has such facts
+abbrev pub HasFacts : Result PlainIndex PickError → HeldIndex → Type 0
+HasFacts (Ok i) facts = i.facts ≡ facts
+HasFacts (Err e) facts = ⊥

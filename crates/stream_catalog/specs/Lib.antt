@@ -18,6 +18,7 @@ pub mod Beside
 pub mod Calls
 pub mod RowChanges
 pub mod NewRows
+pub mod Picks
 pub mod FactTests
 pub mod Laws
 pub mod FoundLaws
