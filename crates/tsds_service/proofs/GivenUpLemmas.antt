@@ -10,7 +10,7 @@ use Rattle.stream_catalog.specs.Plain.{PlainCatalog}
 use Rattle.stream_catalog.specs.Sound.{IsSoundCatalog}
 use Rattle.stream_catalog.specs.Ways.{plain_way, seen_way}
 use Rattle.tsds_service.specs.Bulk.{items_of}
-use Rattle.tsds_service.specs.Causes.{Cause}
+use Rattle.tsds_service.specs.declared.causes.Cause.{Cause}
 use Rattle.tsds_service.specs.GivenUp.{with_first, done_up_to, given_up}
 use Rattle.tsds_service.specs.GivenUpLaws.{GivenUpRefine, GivenUpStand, GivenUpKeepSound, GivenUpKeepSeen}
 use Rattle.tsds_service.specs.Laws.{MachinesSeenAgain}

@@ -23,7 +23,8 @@ use Rattle.synthetic_source.specs.Faults.{time_of}
 use Rattle.synthetic_source.specs.declared.errors.DocKind.{DocKind}
 use Rattle.time_text.specs.declared.intervals.Interval.{Interval}
 use Rattle.tsds_service.specs.Bulk.{Outcome, taken, barred, key_of, by_place, by_key, by_cells, by_index, by_pick, by_time, by_document, by_stream, by_action, item_outcome, after_outcome, after_item, outcomes_of, after_items}
-use Rattle.tsds_service.specs.Causes.{ItemCause, conflict, full, blocked, no_stream, no_object}
+use Rattle.tsds_service.specs.declared.causes.ItemCause.{ItemCause}
+use Rattle.tsds_service.specs.declared.causes.ItemCause.TheVariants.{Conflict, Full, Blocked, NoStream, NoObject}
 use Rattle.tsds_service.proofs.CatalogLaws.{CatalogLaws}
 use Rattle.tsds_service.proofs.PickLemmas.{member-see, member_found}
 use Rattle.row_cells.specs.Limits.{most_documents}
@@ -61,8 +62,8 @@ module _ (laws : CatalogLaws) where
       let shown : shown_by i.facts.interval i.facts.mapping.schema i.rows ≡ in_row_order i.rows = ap (λ o. shown_by o i.facts.mapping.schema i.rows) raw in
       let place : has_place row.key row.time (see_index i).rows ≡ has_place row.key row.time i.rows = ap (has_place row.key row.time) shown ∙ laws.rows.place row.key row.time i.rows in
       let number : length (see_index i).rows ≡ length i.rows = ap length shown ∙ laws.rows.number i.rows in
-      ap (λ b. if b then barred (conflict (id_of row.key row.time)) else (if is_full (see_index i).rows then barred (full n) else taken n row)) place
-      ∙ ap (λ k. if has_place row.key row.time i.rows then barred (conflict (id_of row.key row.time)) else (if nat_le most_documents k then barred (full n) else taken n row)) number
+      ap (λ b. if b then barred (Conflict (id_of row.key row.time)) else (if is_full (see_index i).rows then barred (Full n) else taken n row)) place
+      ∙ ap (λ k. if has_place row.key row.time i.rows then barred (Conflict (id_of row.key row.time)) else (if nat_le most_documents k then barred (Full n) else taken n row)) number
 
   key-see : (n : List ℕ) (i : PlainIndex) (time : ℤ) (cells : List Cell) (key : Result (List ℕ) ItemCause) → i.facts.interval ≡ None → by_key n (see_index i) time cells key ≡ by_key n i time cells key
   key-see n i time cells (Ok key) raw = place-see n i (record { key = key; time = time; count = 1; cells = cells }) raw
@@ -88,7 +89,7 @@ module _ (laws : CatalogLaws) where
     pick-see s time d (Some i) picked = by_test i.facts.blocked refl
       where
         by_test : (b : Bool) → i.facts.blocked ≡ b →
-            (if b then barred (blocked i.facts.name) else by_index i.facts.name (see_index i) time d) ≡ (if b then barred (blocked i.facts.name) else by_index i.facts.name i time d)
+            (if b then barred (Blocked i.facts.name) else by_index i.facts.name (see_index i) time d) ≡ (if b then barred (Blocked i.facts.name) else by_index i.facts.name i time d)
         by_test true shut = refl
         by_test false takes = index-see i.facts.name i time d (each_named ShowsPuts i.facts.name c.indices i (member_found c s time i picked).there shows) takes
 
@@ -101,8 +102,8 @@ module _ (laws : CatalogLaws) where
     stream-see name source = by_found (stream_named name c.streams) (option_and_then object_of source)
       where
         by_found : (o : Option PlainStream) (tree : Option Data) →
-            with_found o (barred (no_stream name)) (λ s. with_found tree (barred no_object) (by_document (see_catalog c) s))
-            ≡ with_found o (barred (no_stream name)) (λ s. with_found tree (barred no_object) (by_document c s))
+            with_found o (barred (NoStream name)) (λ s. with_found tree (barred NoObject) (by_document (see_catalog c) s))
+            ≡ with_found o (barred (NoStream name)) (λ s. with_found tree (barred NoObject) (by_document c s))
         by_found None tree = refl
         by_found (Some s) None = refl
         by_found (Some s) (Some d) = time-see s d (time_of d)
@@ -123,7 +124,7 @@ module _ (laws : CatalogLaws) where
     place_found : (m : List ℕ) (i : PlainIndex) (r : Row) → index_named m c.indices ≡ Some i → i.facts.blocked ≡ false → by_place m i r ≡ taken n row → FindsPlace c n row
     place_found m i r found takes is = by_tests (has_place r.key r.time i.rows) (is_full i.rows) refl is
       where
-        by_tests : (a b : Bool) → has_place r.key r.time i.rows ≡ a → (if a then barred (conflict (id_of r.key r.time)) else (if b then barred (full m) else taken m r)) ≡ taken n row → FindsPlace c n row
+        by_tests : (a b : Bool) → has_place r.key r.time i.rows ≡ a → (if a then barred (Conflict (id_of r.key r.time)) else (if b then barred (Full m) else taken m r)) ≡ taken n row → FindsPlace c n row
         by_tests true b place is = absurd (barred_not is)
         by_tests false true place is = absurd (barred_not is)
         by_tests false false place is = λ j there.
@@ -143,7 +144,7 @@ module _ (laws : CatalogLaws) where
     pick_found s time d None picked is = absurd (barred_not is)
     pick_found s time d (Some i) picked is = by_test i.facts.blocked refl is
       where
-        by_test : (b : Bool) → i.facts.blocked ≡ b → (if b then barred (blocked i.facts.name) else by_index i.facts.name i time d) ≡ taken n row → FindsPlace c n row
+        by_test : (b : Bool) → i.facts.blocked ≡ b → (if b then barred (Blocked i.facts.name) else by_index i.facts.name i time d) ≡ taken n row → FindsPlace c n row
         by_test true shut is = absurd (barred_not is)
         by_test false takes is = cells_found i.facts.name i time (document_cells i.facts.mapping.schema i.facts.mapping.strict d) (member_found c s time i picked).there takes is
 
@@ -155,7 +156,7 @@ module _ (laws : CatalogLaws) where
         of_time s d (Some time) is = pick_found s time d (member_at c time s) refl is
 
         by_found : (o : Option PlainStream) (tree : Option Data) →
-            with_found o (barred (no_stream name)) (λ s. with_found tree (barred no_object) (by_document c s)) ≡ taken n row → FindsPlace c n row
+            with_found o (barred (NoStream name)) (λ s. with_found tree (barred NoObject) (by_document c s)) ≡ taken n row → FindsPlace c n row
         by_found None tree is = absurd (barred_not is)
         by_found (Some s) None is = absurd (barred_not is)
         by_found (Some s) (Some d) is = of_time s d (time_of d) is

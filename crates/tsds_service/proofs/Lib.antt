@@ -1,3 +1,4 @@
+mod BodyLemmas
 mod CatalogLaws
 mod SampleLemmas
 mod PickLemmas

@@ -26,14 +26,16 @@ use Rattle.ts_mapping.specs.Templates.{template_of}
 use Rattle.ts_mapping.specs.declared.faults.Fault.{Fault}
 use Rattle.tsds_service.specs.Bodies.{fixed_interval_of, moves_of}
 use Rattle.tsds_service.specs.Bulk.{items_of, after_items}
-use Rattle.tsds_service.specs.Causes as cause
-use Rattle.tsds_service.specs.Causes.{Cause, refused}
+use Rattle.tsds_service.specs.declared.causes.Cause.TheVariants as cause
+use Rattle.tsds_service.specs.Causes.{refused}
+use Rattle.tsds_service.specs.declared.causes.Cause.{Cause}
 use Rattle.tsds_service.specs.Laws.{MachinesSeenAgain, StepsStand, StepsKeepSound, StepsKeepSeen}
 use Rattle.tsds_service.specs.Machine.{Machine, IsSound, IsSeen}
 use Rattle.tsds_service.specs.Questions.{Searching}
 use Rattle.tsds_service.specs.Replies.{ack, stream_reply, rolled_reply, blocked_reply}
 use Rattle.tsds_service.specs.Requests as spec
-use Rattle.tsds_service.specs.Requests.{Stepped, About, unchanged, changed, unless, caused, about_name, about_index, about_fold, fold_names_refusal, write_index, step_of, step}
+use Rattle.tsds_service.specs.Requests.{Stepped, unchanged, changed, unless, caused, about_name, about_index, about_fold, fold_names_refusal, write_index, step_of, step}
+use Rattle.tsds_service.specs.declared.layer_causes.About.{About}
 use Rattle.tsds_service.specs.declared.reply.Reply.{Reply}
 use Rattle.tsds_service.proofs.CatalogLaws.{SoundLaws}
 use Rattle.tsds_service.proofs.SourceLemmas.{GivesWithin, items_within}
@@ -68,20 +70,20 @@ module _ (laws : SoundLaws) (m : Machine) (sound : IsSound m) where
   put_lifecycle-sound : (name : List ℕ) (body : Data) → IsSound (spec.put_lifecycle m name body).machine
   put_lifecycle-sound name body =
       unless-sound (caused (about_name name) (named_refusal (facts_of m.catalog) name)) m
-      (with_found (lifecycle_of body) (unchanged m (refused cause.bad_body)) (λ life. changed m ack (life_set m.catalog name life))) sound
-      (λ none. found-sound (lifecycle_of body) (unchanged m (refused cause.bad_body)) (λ life. changed m ack (life_set m.catalog name life)) sound
+      (with_found (lifecycle_of body) (unchanged m (refused cause.BadBody)) (λ life. changed m ack (life_set m.catalog name life))) sound
+      (λ none. found-sound (lifecycle_of body) (unchanged m (refused cause.BadBody)) (λ life. changed m ack (life_set m.catalog name life)) sound
       (λ life is. left (life_set m.catalog name life) (laws.lives m.catalog name life (bodies_are_lifecycles body life is) sound.catalog) (laws.names.lives m.catalog name life sound.names)))
 
   downsample-sound : (source target : List ℕ) (by : Option Interval) → IsTrue (is_target_name target) → IsSound (spec.downsample_by plain_way m source target by).machine
   downsample-sound source target None named =
-      unless-sound (caused (about_name target) (fold_names_refusal (facts_of m.catalog) source target)) m (unchanged m (refused cause.bad_body)) sound (λ none. sound)
+      unless-sound (caused (about_name target) (fold_names_refusal (facts_of m.catalog) source target)) m (unchanged m (refused cause.BadBody)) sound (λ none. sound)
   downsample-sound source target (Some by) named =
       by_change (about_fold (facts_of m.catalog) source target by) (downsample_refusal (facts_of m.catalog) source target by) ack (downsampled plain_way m.catalog source target by)
       (λ none. laws.downsamples m.catalog source target by sound.catalog none) (λ none. laws.names.downsamples plain_way m.catalog source target by named sound.names)
 
   modify-sound : (body : Data) → IsSound (spec.modify m body).machine
   modify-sound body =
-      found-sound (moves_of body) (unchanged m (refused cause.bad_body))
+      found-sound (moves_of body) (unchanged m (refused cause.BadBody))
       (λ moves. unless (caused (about_name []) (moves_refusal (facts_of m.catalog) moves)) m (changed m ack (moved_all m.catalog moves))) sound
       (λ moves is. by_change (about_name []) (moves_refusal (facts_of m.catalog) moves) ack (moved_all m.catalog moves) (λ none. laws.moves m.catalog moves sound.catalog none)
       (λ none. laws.names.moves m.catalog moves sound.names))
@@ -89,7 +91,7 @@ module _ (laws : SoundLaws) (m : Machine) (sound : IsSound m) where
   flush-sound : IsSound (spec.flush m).machine
   flush-sound = by_test m.kept
     where
-      by_test : (b : Bool) → IsSound (if b then record { reply = ack; machine = m; wrote = true } else unchanged m (refused cause.no_data)).machine
+      by_test : (b : Bool) → IsSound (if b then record { reply = ack; machine = m; wrote = true } else unchanged m (refused cause.NoData)).machine
       by_test true = sound
       by_test false = sound
 
@@ -111,7 +113,7 @@ module _ (laws : SoundLaws) (m : Machine) (sound : IsSound m) where
       by_change (about_name name) (create_refusal (facts_of m.catalog) name m.now) ack (created m.catalog name m.now) (laws.creations m.catalog name m.now sound.now sound.catalog)
       (λ none. laws.names.creations m.catalog name m.now is_asked sound.now sound.names)
   step_of-sound searching (asked.get_stream name) is_asked =
-      found-sound (stream_named name m.catalog.streams) (unchanged m (refused (cause.no_such_name name))) (λ s. unchanged m (stream_reply (facts_of m.catalog) s)) sound (λ s is. sound)
+      found-sound (stream_named name m.catalog.streams) (unchanged m (refused (cause.NoSuchName name))) (λ s. unchanged m (stream_reply (facts_of m.catalog) s)) sound (λ s is. sound)
   step_of-sound searching (asked.delete_stream name) is_asked =
       by_change (about_name name) (named_refusal (facts_of m.catalog) name) ack (stream_deleted m.catalog name) (λ none. laws.stream_deletions m.catalog name sound.catalog)
       (λ none. laws.names.stream_deletions m.catalog name sound.names)

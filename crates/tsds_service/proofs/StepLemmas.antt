@@ -27,14 +27,16 @@ use Rattle.ts_mapping.specs.Templates.{template_of}
 use Rattle.ts_mapping.specs.declared.faults.Fault.{Fault}
 use Rattle.tsds_service.specs.Bodies.{fixed_interval_of, moves_of}
 use Rattle.tsds_service.specs.Bulk.{items_of, outcomes_of, after_items, bulk_reply}
-use Rattle.tsds_service.specs.Causes as cause
-use Rattle.tsds_service.specs.Causes.{Cause, refused}
+use Rattle.tsds_service.specs.declared.causes.Cause.TheVariants as cause
+use Rattle.tsds_service.specs.Causes.{refused}
+use Rattle.tsds_service.specs.declared.causes.Cause.{Cause}
 use Rattle.tsds_service.specs.Laws.{StepsRefine, StepsStand, UnitsRefine, UnitsStand}
 use Rattle.tsds_service.specs.Machine.{Machine, see, unit}
 use Rattle.tsds_service.specs.Questions.{Searching, facts_in, samples_of, target_of, get_reply}
 use Rattle.tsds_service.specs.Replies.{ack, stream_reply, rolled_reply, blocked_reply, ran_reply, series_count, task_tree, tasks_listed}
 use Rattle.tsds_service.specs.Requests as spec
-use Rattle.tsds_service.specs.Requests.{Stepped, see_stepped, About, unchanged, changed, unless, caused, about_name, about_index, about_fold, fold_names_refusal, write_index, step_of, step}
+use Rattle.tsds_service.specs.Requests.{Stepped, see_stepped, unchanged, changed, unless, caused, about_name, about_index, about_fold, fold_names_refusal, write_index, step_of, step}
+use Rattle.tsds_service.specs.declared.layer_causes.About.{About}
 use Rattle.tsds_service.specs.declared.reply.Reply.{Reply}
 use Rattle.tsds_service.proofs.CatalogLaws.{CatalogLaws}
 use Rattle.tsds_service.proofs.ItemLemmas.{outcomes-see, after_items-see}
@@ -84,8 +86,8 @@ module _ (laws : CatalogLaws) (m : Machine) where
   get_stream-see : (name : List ℕ) → spec.get_stream (see m) name ≡ see_stepped (spec.get_stream m name)
   get_stream-see name = by_found (stream_named name m.catalog.streams)
     where
-      by_found : (o : Option PlainStream) → with_found o (unchanged (see m) (refused (cause.no_such_name name))) (λ s. unchanged (see m) (stream_reply (facts_of (see_catalog m.catalog)) s))
-          ≡ see_stepped (with_found o (unchanged m (refused (cause.no_such_name name))) (λ s. unchanged m (stream_reply (facts_of m.catalog) s)))
+      by_found : (o : Option PlainStream) → with_found o (unchanged (see m) (refused (cause.NoSuchName name))) (λ s. unchanged (see m) (stream_reply (facts_of (see_catalog m.catalog)) s))
+          ≡ see_stepped (with_found o (unchanged m (refused (cause.NoSuchName name))) (λ s. unchanged m (stream_reply (facts_of m.catalog) s)))
       by_found None = refl
       by_found (Some s) = ap (λ f. unchanged (see m) (stream_reply f s)) (laws.facts m.catalog)
 
@@ -97,19 +99,19 @@ module _ (laws : CatalogLaws) (m : Machine) where
   put_lifecycle-see name body = by_life (lifecycle_of body)
     where
       by_life : (o : Option Lifecycle) →
-          unless (caused (about_name name) (named_refusal (facts_of (see_catalog m.catalog)) name)) (see m) (with_found o (unchanged (see m) (refused cause.bad_body)) (λ life. changed (see m) ack (life_set (see_catalog m.catalog) name life)))
-          ≡ see_stepped (unless (caused (about_name name) (named_refusal (facts_of m.catalog) name)) m (with_found o (unchanged m (refused cause.bad_body)) (λ life. changed m ack (life_set m.catalog name life))))
+          unless (caused (about_name name) (named_refusal (facts_of (see_catalog m.catalog)) name)) (see m) (with_found o (unchanged (see m) (refused cause.BadBody)) (λ life. changed (see m) ack (life_set (see_catalog m.catalog) name life)))
+          ≡ see_stepped (unless (caused (about_name name) (named_refusal (facts_of m.catalog) name)) m (with_found o (unchanged m (refused cause.BadBody)) (λ life. changed m ack (life_set m.catalog name life))))
       by_life None =
-          ap (λ f. unless (caused (about_name name) (named_refusal f name)) (see m) (unchanged (see m) (refused cause.bad_body))) (laws.facts m.catalog)
-          ∙ unless-see (caused (about_name name) (named_refusal (facts_of m.catalog) name)) m (unchanged (see m) (refused cause.bad_body)) (unchanged m (refused cause.bad_body)) (λ none. refl)
+          ap (λ f. unless (caused (about_name name) (named_refusal f name)) (see m) (unchanged (see m) (refused cause.BadBody))) (laws.facts m.catalog)
+          ∙ unless-see (caused (about_name name) (named_refusal (facts_of m.catalog) name)) m (unchanged (see m) (refused cause.BadBody)) (unchanged m (refused cause.BadBody)) (λ none. refl)
       by_life (Some life) = by_change (λ f. caused (about_name name) (named_refusal f name)) (λ f. ack) (λ c. life_set c name life) (laws.changes.life_set name life m.catalog)
 
   -- ---- indices
 
   downsample-see : IsSoundCatalog m.catalog → (source target : List ℕ) (by : Option Interval) → spec.downsample_by seen_way (see m) source target by ≡ see_stepped (spec.downsample_by plain_way m source target by)
   downsample-see sound source target None =
-      ap (λ f. unless (caused (about_name target) (fold_names_refusal f source target)) (see m) (unchanged (see m) (refused cause.bad_body))) (laws.facts m.catalog)
-      ∙ unless-see (caused (about_name target) (fold_names_refusal (facts_of m.catalog) source target)) m (unchanged (see m) (refused cause.bad_body)) (unchanged m (refused cause.bad_body)) (λ none. refl)
+      ap (λ f. unless (caused (about_name target) (fold_names_refusal f source target)) (see m) (unchanged (see m) (refused cause.BadBody))) (laws.facts m.catalog)
+      ∙ unless-see (caused (about_name target) (fold_names_refusal (facts_of m.catalog) source target)) m (unchanged (see m) (refused cause.BadBody)) (unchanged m (refused cause.BadBody)) (λ none. refl)
   downsample-see sound source target (Some by) =
       by_facts (λ f. caused (about_fold f source target by) (downsample_refusal f source target by)) (λ f. ack) (λ c. downsampled plain_way c source target by) (λ c. downsampled seen_way c source target by)
       (λ none. laws.downsamples m.catalog source target by sound (caused_none (about_fold (facts_of m.catalog) source target by) (downsample_refusal (facts_of m.catalog) source target by) none))
@@ -118,8 +120,8 @@ module _ (laws : CatalogLaws) (m : Machine) where
   modify-see body = by_moves (moves_of body)
     where
       by_moves : (o : Option (List Move)) →
-          with_found o (unchanged (see m) (refused cause.bad_body)) (λ moves. unless (caused (about_name []) (moves_refusal (facts_of (see_catalog m.catalog)) moves)) (see m) (changed (see m) ack (moved_all (see_catalog m.catalog) moves)))
-          ≡ see_stepped (with_found o (unchanged m (refused cause.bad_body)) (λ moves. unless (caused (about_name []) (moves_refusal (facts_of m.catalog) moves)) m (changed m ack (moved_all m.catalog moves))))
+          with_found o (unchanged (see m) (refused cause.BadBody)) (λ moves. unless (caused (about_name []) (moves_refusal (facts_of (see_catalog m.catalog)) moves)) (see m) (changed (see m) ack (moved_all (see_catalog m.catalog) moves)))
+          ≡ see_stepped (with_found o (unchanged m (refused cause.BadBody)) (λ moves. unless (caused (about_name []) (moves_refusal (facts_of m.catalog) moves)) m (changed m ack (moved_all m.catalog moves))))
       by_moves None = refl
       by_moves (Some moves) = by_change (λ f. caused (about_name []) (moves_refusal f moves)) (λ f. ack) (λ c. moved_all c moves) (laws.changes.moved moves m.catalog)
 
@@ -135,17 +137,17 @@ module _ (laws : CatalogLaws) (m : Machine) where
   -- ---- questions
 
   asked-see : (name : List ℕ) (answer : Way → List PlainIndex → Reply) → ((is : List PlainIndex) → answer seen_way (map see_index is) ≡ answer plain_way is) →
-      with_found (target_of (see_catalog m.catalog) name) (refused (cause.no_such_name name)) (answer seen_way) ≡ with_found (target_of m.catalog name) (refused (cause.no_such_name name)) (answer plain_way)
-  asked-see name answer same = ap (λ o. with_found o (refused (cause.no_such_name name)) (answer seen_way)) (targets_stay laws.lookups m.catalog name) ∙ by_found (target_of m.catalog name)
+      with_found (target_of (see_catalog m.catalog) name) (refused (cause.NoSuchName name)) (answer seen_way) ≡ with_found (target_of m.catalog name) (refused (cause.NoSuchName name)) (answer plain_way)
+  asked-see name answer same = ap (λ o. with_found o (refused (cause.NoSuchName name)) (answer seen_way)) (targets_stay laws.lookups m.catalog name) ∙ by_found (target_of m.catalog name)
     where
-      by_found : (o : Option (List PlainIndex)) → with_found (option_map (map see_index) o) (refused (cause.no_such_name name)) (answer seen_way) ≡ with_found o (refused (cause.no_such_name name)) (answer plain_way)
+      by_found : (o : Option (List PlainIndex)) → with_found (option_map (map see_index) o) (refused (cause.NoSuchName name)) (answer seen_way) ≡ with_found o (refused (cause.NoSuchName name)) (answer plain_way)
       by_found None = refl
       by_found (Some is) = same is
 
-  document-see : (n id : List ℕ) → with_found (index_named n (see_catalog m.catalog).indices) (refused (cause.no_such_name n)) (λ i. get_reply seen_way i id) ≡ with_found (index_named n m.catalog.indices) (refused (cause.no_such_name n)) (λ i. get_reply plain_way i id)
-  document-see n id = ap (λ o. with_found o (refused (cause.no_such_name n)) (λ i. get_reply seen_way i id)) (laws.lookups m.catalog n) ∙ by_found (index_named n m.catalog.indices)
+  document-see : (n id : List ℕ) → with_found (index_named n (see_catalog m.catalog).indices) (refused (cause.NoSuchName n)) (λ i. get_reply seen_way i id) ≡ with_found (index_named n m.catalog.indices) (refused (cause.NoSuchName n)) (λ i. get_reply plain_way i id)
+  document-see n id = ap (λ o. with_found o (refused (cause.NoSuchName n)) (λ i. get_reply seen_way i id)) (laws.lookups m.catalog n) ∙ by_found (index_named n m.catalog.indices)
     where
-      by_found : (o : Option PlainIndex) → with_found (option_map see_index o) (refused (cause.no_such_name n)) (λ i. get_reply seen_way i id) ≡ with_found o (refused (cause.no_such_name n)) (λ i. get_reply plain_way i id)
+      by_found : (o : Option PlainIndex) → with_found (option_map see_index o) (refused (cause.NoSuchName n)) (λ i. get_reply seen_way i id) ≡ with_found o (refused (cause.NoSuchName n)) (λ i. get_reply plain_way i id)
       by_found None = refl
       by_found (Some i) = refl
 
@@ -170,8 +172,8 @@ module _ (laws : CatalogLaws) (m : Machine) where
   flush-see : spec.flush (see m) ≡ see_stepped (spec.flush m)
   flush-see = by_test m.kept
     where
-      by_test : (b : Bool) → (if b then record { reply = ack; machine = see m; wrote = true } else unchanged (see m) (refused cause.no_data))
-          ≡ see_stepped (if b then record { reply = ack; machine = m; wrote = true } else unchanged m (refused cause.no_data))
+      by_test : (b : Bool) → (if b then record { reply = ack; machine = see m; wrote = true } else unchanged (see m) (refused cause.NoData))
+          ≡ see_stepped (if b then record { reply = ack; machine = m; wrote = true } else unchanged m (refused cause.NoData))
       by_test true = refl
       by_test false = refl
 

@@ -39,7 +39,9 @@ use Rattle.time_text.specs.Instant.{IsInstant}
 use Rattle.time_text.specs.declared.intervals.Interval.{Interval}
 use Rattle.tsds_service.specs.Bulk.{Outcome, taken, barred, key_of, by_place, by_key, by_cells, by_index, by_pick, by_time, by_document, by_stream, by_action, item_outcome, after_outcome, after_item, after_items}
 use Rattle.tsds_service.specs.CausedLaws.{keys_caused, same_with_causes}
-use Rattle.tsds_service.specs.Causes.{ItemCause, conflict, full, blocked, no_stream, no_object, key_cause}
+use Rattle.tsds_service.specs.Causes.{key_cause}
+use Rattle.tsds_service.specs.declared.causes.ItemCause.{ItemCause}
+use Rattle.tsds_service.specs.declared.causes.ItemCause.TheVariants.{Conflict, Full, Blocked, NoStream, NoObject}
 use Rattle.tsds_service.proofs.ItemLemmas.{barred_not, taken_name, taken_row, some_is, none_not_some}
 use Rattle.tsds_service.proofs.PickLemmas.{member_found}
 use Rattle.tsds_service.proofs.SourceLemmas.{IsSourceWithin, AreSourcesWithin}
@@ -69,7 +71,7 @@ module _ (held_there : FoundIsHeld) (fit : CellsOfDocumentsFit) (c : PlainCatalo
   place_takes m i r found takes within row_of is = by_tests (has_place r.key r.time i.rows) (is_full i.rows) refl refl is
     where
       by_tests : (a b : Bool) → has_place r.key r.time i.rows ≡ a → is_full i.rows ≡ b
-          → (if a then barred (conflict (id_of r.key r.time)) else (if b then barred (full m) else taken m r)) ≡ taken n row → TakesRow c n row
+          → (if a then barred (Conflict (id_of r.key r.time)) else (if b then barred (Full m) else taken m r)) ≡ taken n row → TakesRow c n row
       by_tests true b place room is = absurd (barred_not is)
       by_tests false true place room is = absurd (barred_not is)
       by_tests false false place room is = λ j there.
@@ -113,7 +115,7 @@ module _ (held_there : FoundIsHeld) (fit : CellsOfDocumentsFit) (c : PlainCatalo
   pick_takes s time d None few picked is = absurd (barred_not is)
   pick_takes s time d (Some i) few picked is = by_test i.facts.blocked refl is
     where
-      by_test : (b : Bool) → i.facts.blocked ≡ b → (if b then barred (blocked i.facts.name) else by_index i.facts.name i time d) ≡ taken n row → TakesRow c n row
+      by_test : (b : Bool) → i.facts.blocked ≡ b → (if b then barred (Blocked i.facts.name) else by_index i.facts.name i time d) ≡ taken n row → TakesRow c n row
       by_test true shut is = absurd (barred_not is)
       by_test false takes is =
           let member = member_found c s time i picked in
@@ -141,13 +143,13 @@ module _ (held_there : FoundIsHeld) (fit : CellsOfDocumentsFit) (c : PlainCatalo
   stream_takes : (name : List ℕ) (source : Option (List ℕ)) → IsSourceWithin longest_list source → by_stream c name source ≡ taken n row → TakesRow c n row
   stream_takes name None short is = by_found (stream_named name c.streams) is
     where
-      by_found : (o : Option PlainStream) → with_found o (barred (no_stream name)) (λ s. barred no_object) ≡ taken n row → TakesRow c n row
+      by_found : (o : Option PlainStream) → with_found o (barred (NoStream name)) (λ s. barred NoObject) ≡ taken n row → TakesRow c n row
       by_found None is = absurd (barred_not is)
       by_found (Some s) is = absurd (barred_not is)
   stream_takes name (Some source) short is = by_found (stream_named name c.streams) (object_of source) refl is
     where
       by_found : (o : Option PlainStream) (tree : Option Data) → object_of source ≡ tree →
-          with_found o (barred (no_stream name)) (λ s. with_found tree (barred no_object) (by_document c s)) ≡ taken n row → TakesRow c n row
+          with_found o (barred (NoStream name)) (λ s. with_found tree (barred NoObject) (by_document c s)) ≡ taken n row → TakesRow c n row
       by_found None tree read is = absurd (barred_not is)
       by_found (Some s) None read is = absurd (barred_not is)
       by_found (Some s) (Some d) read is = time_takes s d (time_of d) (few_in source d short read) is

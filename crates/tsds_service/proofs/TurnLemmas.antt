@@ -12,7 +12,8 @@ use Rattle.row_cells.specs.Each.{Each}
 use Rattle.stream_catalog.specs.Ways.{plain_way, seen_way}
 use Rattle.time_text.specs.Instant.{IsInstant, in_range, instant_of, written_of}
 use Rattle.tsds_service.specs.CausedLaws.{requests_caused, same_with_causes}
-use Rattle.tsds_service.specs.Causes.{Cause, refused, request_cause}
+use Rattle.tsds_service.specs.Causes.{refused, request_cause}
+use Rattle.tsds_service.specs.declared.causes.Cause.{Cause}
 use Rattle.tsds_service.specs.Laws.{MachinesSeenAgain, StepsRefine, UnitsRefine, StepsKeepSound, OneUnitKeepsSound, IsSoundDated, IsSeenDated, IsSoundWritten, IsSeenWritten, MessagesRefine, MomentsAreInstants, TurnAlike, TurnsRefine, TurnStands, TurnsStand}
 use Rattle.tsds_service.specs.Machine.{Machine, see, IsSound}
 use Rattle.tsds_service.specs.Messages.{Told, reading_of, see_told, with_unit, by_reading, message_told, moment_by}

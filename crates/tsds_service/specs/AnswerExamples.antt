@@ -16,7 +16,7 @@ use Rattle.time_text.specs.Printed.{day_text, instant_text}
 use Rattle.ts_mapping.specs.Faults.{refusal_of}
 use Rattle.ts_mapping.specs.Templates.{template_of}
 use Rattle.ts_mapping.specs.declared.templates.Template.{Template}
-use Rattle.tsds_service.specs.Causes as cause
+use Rattle.tsds_service.specs.declared.causes.Cause.TheVariants as cause
 use Rattle.tsds_service.specs.Causes.{refused}
 use Rattle.tsds_service.specs.Examples.{mapping, first_facts, last_facts, template, stream, two, machine, second, names, plain, move_one, folding}
 use Rattle.tsds_service.specs.Machine.{Machine}
@@ -66,10 +66,10 @@ unfolding digits
 stream_told = refl
 
 -- an index and a template are no streams
-pub stream_of_index : get_stream folded (codes "b") ≡ unchanged folded (refused (cause.no_such_name (codes "b")))
+pub stream_of_index : get_stream folded (codes "b") ≡ unchanged folded (refused (cause.NoSuchName (codes "b")))
 stream_of_index = refl
 
-pub stream_of_template : get_stream folded (codes "t") ≡ unchanged folded (refused (cause.no_such_name (codes "t")))
+pub stream_of_template : get_stream folded (codes "t") ≡ unchanged folded (refused (cause.NoSuchName (codes "t")))
 stream_of_template = refl
 
 -- ---- a block
@@ -90,7 +90,7 @@ pub block_again : block (machine true None []) (codes "a") ≡ unchanged (machin
 block_again = refl
 
 -- a stream is no index
-pub block_of_stream : block plain (codes "s") ≡ unchanged plain (refused (cause.no_such_name (codes "s")))
+pub block_of_stream : block plain (codes "s") ≡ unchanged plain (refused (cause.NoSuchName (codes "s")))
 block_of_stream = refl
 
 -- ---- templates and streams
@@ -113,7 +113,7 @@ stream_made = refl
 pub stream_gone : delete_stream (folding 1) (codes "s") ≡ record { reply = ack; machine = streamless; wrote = false }
 stream_gone = refl
 
-pub stream_not_gone : delete_stream plain (codes "a") ≡ unchanged plain (refused (cause.no_such_name (codes "a")))
+pub stream_not_gone : delete_stream plain (codes "a") ≡ unchanged plain (refused (cause.NoSuchName (codes "a")))
 stream_not_gone = refl
 
 -- the reply names the write index before and after
@@ -125,7 +125,7 @@ pub rolled : rollover plain (codes "s") ≡ record {
 unfolding backing_name day_text
 rolled = refl
 
-pub rolled_nowhere : rollover plain (codes "b") ≡ unchanged plain (refused (cause.no_such_name (codes "b")))
+pub rolled_nowhere : rollover plain (codes "b") ≡ unchanged plain (refused (cause.NoSuchName (codes "b")))
 rolled_nowhere = refl
 
 -- ---- indices
@@ -145,7 +145,7 @@ pub index_gone : delete_index (folding 1) (codes "a") ≡ record {
 }
 index_gone = refl
 
-pub index_not_gone : delete_index plain (codes "s") ≡ unchanged plain (refused (cause.no_such_name (codes "s")))
+pub index_not_gone : delete_index plain (codes "s") ≡ unchanged plain (refused (cause.NoSuchName (codes "s")))
 index_not_gone = refl
 
 -- a member that is taken out stays as an index; one that comes back stands where its window is

@@ -1,5 +1,6 @@
 -- What the bodies of some requests ask for.
 use Rattle.std.specs.Prelude.{ℕ, ◌&&◌, nat_le, List, [], ◌∷◌, length, codes, bytes_eq, Option, Some, None, option_and_then, if◌then◌else◌}
+use Rattle.std.specs.Option.{option_map}
 use Rattle.json_walk.specs.Names.{has_names}
 use Rattle.json_walk.specs.Shapes.{only_member}
 use Rattle.lifecycle_swap.specs.Bodies.{interval_read}
@@ -9,6 +10,7 @@ use Rattle.stream_catalog.specs.declared.answers.Move.{Move}
 use Rattle.stream_catalog.specs.declared.answers.Move.TheVariants.{Remove, Add}
 use Rattle.time_text.specs.declared.intervals.Interval.{Interval}
 use Rattle.tsds_service.specs.Limits.{most_moves}
+use Rattle.tsds_service.specs.declared.moves.MoveNames.{MoveNames}
 
 -- the interval of a downsampling: the body's one member
 abbrev pub fixed_interval_of : Data → Option Interval
@@ -16,20 +18,26 @@ fixed_interval_of body = if has_names (codes "fixed_interval" ∷ []) body then 
 
 -- ---- moves
 
-abbrev pub move_with : (List ℕ → List ℕ → Move) → Option (List ℕ) → Option (List ℕ) → Option Move
-move_with move (Some stream) (Some index) = Some (move stream index)
-move_with move stream index = None
+abbrev pub move_names : Option (List ℕ) → Option (List ℕ) → Option MoveNames
+move_names (Some stream) (Some index) = Some (record { stream = stream; index = index })
+move_names stream index = None
 
 -- the stream and the index of a move
-abbrev pub names_of_move : (List ℕ → List ℕ → Move) → Data → Option Move
-names_of_move move d =
+abbrev pub names_of_move : Data → Option MoveNames
+names_of_move d =
     if has_names (codes "data_stream" ∷ codes "index" ∷ []) d
-    then move_with move (option_and_then as_str (get (codes "data_stream") d)) (option_and_then as_str (get (codes "index") d)) else None
+    then move_names (option_and_then as_str (get (codes "data_stream") d)) (option_and_then as_str (get (codes "index") d)) else None
+
+abbrev pub removal : MoveNames → Move
+removal n = Remove n.stream n.index
+
+abbrev pub addition : MoveNames → Move
+addition n = Add n.stream n.index
 
 abbrev pub move_named : List ℕ × Data → Option Move
 move_named m =
-    if bytes_eq m.0 (codes "remove_backing_index") then names_of_move Remove m.1
-    else (if bytes_eq m.0 (codes "add_backing_index") then names_of_move Add m.1 else None)
+    if bytes_eq m.0 (codes "remove_backing_index") then option_map removal (names_of_move m.1)
+    else (if bytes_eq m.0 (codes "add_backing_index") then option_map addition (names_of_move m.1) else None)
 
 -- a move is an object of one member
 abbrev pub move_of : Data → Option Move

@@ -26,8 +26,9 @@ use Rattle.time_text.specs.Unit.{unit_of}
 use Rattle.tsds_service.specs.Bodies.{fixed_interval_of, moves_in, moves_of}
 use Rattle.tsds_service.specs.Bulk.{taken, item_outcome, items_of, bulk_reply}
 use Rattle.tsds_service.specs.CausedLaws.{bulks_caused, same_with_causes}
-use Rattle.tsds_service.specs.Causes as cause
-use Rattle.tsds_service.specs.Causes.{Cause, refused, bulk_cause}
+use Rattle.tsds_service.specs.declared.causes.Cause.TheVariants as cause
+use Rattle.tsds_service.specs.Causes.{refused, bulk_cause}
+use Rattle.tsds_service.specs.declared.causes.Cause.{Cause}
 use Rattle.tsds_service.specs.Examples.{row_at, first_facts, last_facts, first_index, two, item, document, machine, plain, move_of, move_one}
 use Rattle.tsds_service.specs.Machine.{Machine}
 use Rattle.tsds_service.specs.Questions.{Searching, samples_of}
@@ -145,22 +146,22 @@ pub moves_more : moves_of (object (member (codes "actions") (array (element (mov
 moves_more = refl
 
 -- such a body is refused
-pub modify_refused : modify plain (actions (array no_items)) ≡ unchanged plain (refused cause.bad_body)
+pub modify_refused : modify plain (actions (array no_items)) ≡ unchanged plain (refused cause.BadBody)
 modify_refused = refl
 
 -- ---- a lifecycle: the stream is looked for before the body is read
 
-pub life_nowhere : (body : Data) → put_lifecycle plain (codes "x") body ≡ unchanged plain (refused (cause.no_such_name (codes "x")))
+pub life_nowhere : (body : Data) → put_lifecycle plain (codes "x") body ≡ unchanged plain (refused (cause.NoSuchName (codes "x")))
 life_nowhere body = refl
 
 -- an index is no stream
-pub life_of_index : (body : Data) → put_lifecycle plain (codes "a") body ≡ unchanged plain (refused (cause.no_such_name (codes "a")))
+pub life_of_index : (body : Data) → put_lifecycle plain (codes "a") body ≡ unchanged plain (refused (cause.NoSuchName (codes "a")))
 life_of_index body = refl
 
-pub life_refused : (body : Data) → lifecycle_of body ≡ None → put_lifecycle plain (codes "s") body ≡ unchanged plain (refused cause.bad_body)
+pub life_refused : (body : Data) → lifecycle_of body ≡ None → put_lifecycle plain (codes "s") body ≡ unchanged plain (refused cause.BadBody)
 life_refused body is = rw is refl
 
-pub life_null : put_lifecycle plain (codes "s") (object (member (codes "data_retention") null no_members)) ≡ unchanged plain (refused cause.bad_body)
+pub life_null : put_lifecycle plain (codes "s") (object (member (codes "data_retention") null no_members)) ≡ unchanged plain (refused cause.BadBody)
 unfolding lifecycle_of
 life_null = refl
 
@@ -181,16 +182,16 @@ items_taken : (path : Option (List ℕ)) (body : List ℕ) (items : List Item) �
 items_taken path body items is = (same_with_causes bulk_cause (bulk_of path body) (bulks_caused path body)).value items is
 
 pub bulk_action : (searching : Searching) (way : Way) (m : Machine) (path : Option (List ℕ)) (body : List ℕ) → bulk_of path body ≡ Err (BadAction 3) →
-    step_of searching way m (asked.bulk path body) ≡ unchanged m (refused (cause.bad_action 3))
-bulk_action searching way m path body is = ap (bulk way m) (items_refused path body (BadAction 3) (cause.bad_action 3) is refl)
+    step_of searching way m (asked.bulk path body) ≡ unchanged m (refused (cause.BadAction 3))
+bulk_action searching way m path body is = ap (bulk way m) (items_refused path body (BadAction 3) (cause.BadAction 3) is refl)
 
 pub bulk_source : (searching : Searching) (way : Way) (m : Machine) (path : Option (List ℕ)) (body : List ℕ) → bulk_of path body ≡ Err (MissingSource 7) →
-    step_of searching way m (asked.bulk path body) ≡ unchanged m (refused (cause.missing_source 7))
-bulk_source searching way m path body is = ap (bulk way m) (items_refused path body (MissingSource 7) (cause.missing_source 7) is refl)
+    step_of searching way m (asked.bulk path body) ≡ unchanged m (refused (cause.MissingSource 7))
+bulk_source searching way m path body is = ap (bulk way m) (items_refused path body (MissingSource 7) (cause.MissingSource 7) is refl)
 
 pub bulk_empty : (searching : Searching) (way : Way) (m : Machine) (path : Option (List ℕ)) (body : List ℕ) → bulk_of path body ≡ Err Empty →
-    step_of searching way m (asked.bulk path body) ≡ unchanged m (refused cause.no_items)
-bulk_empty searching way m path body is = ap (bulk way m) (items_refused path body Empty cause.no_items is refl)
+    step_of searching way m (asked.bulk path body) ≡ unchanged m (refused cause.NoItems)
+bulk_empty searching way m path body is = ap (bulk way m) (items_refused path body Empty cause.NoItems is refl)
 
 -- one that is taken puts a row, and tells the index
 pub bulk_taken : (searching : Searching) (path : Option (List ℕ)) (body source : List ℕ) → bulk_of path body ≡ Ok (item (Some source) ∷ []) → object_of source ≡ Some (document 97 1600 1) →
@@ -204,14 +205,14 @@ bulk_taken searching path body source items is = ap (bulk plain_way plain) (item
 
 -- ---- searches and counts: of a name that nothing has, of a stream, and of an index
 
-pub search_nothing : (searching : Searching) (way : Way) (body : Option Data) → step_of searching way plain (asked.search_rows (codes "x") body) ≡ unchanged plain (refused (cause.no_such_name (codes "x")))
+pub search_nothing : (searching : Searching) (way : Way) (body : Option Data) → step_of searching way plain (asked.search_rows (codes "x") body) ≡ unchanged plain (refused (cause.NoSuchName (codes "x")))
 search_nothing searching way body = refl
 
-pub count_nothing : (searching : Searching) (way : Way) (body : Option Data) → step_of searching way plain (asked.count_rows (codes "x") body) ≡ unchanged plain (refused (cause.no_such_name (codes "x")))
+pub count_nothing : (searching : Searching) (way : Way) (body : Option Data) → step_of searching way plain (asked.count_rows (codes "x") body) ≡ unchanged plain (refused (cause.NoSuchName (codes "x")))
 count_nothing searching way body = refl
 
 -- a template is no target
-pub search_template : (searching : Searching) (way : Way) (body : Option Data) → step_of searching way plain (asked.search_rows (codes "t") body) ≡ unchanged plain (refused (cause.no_such_name (codes "t")))
+pub search_template : (searching : Searching) (way : Way) (body : Option Data) → step_of searching way plain (asked.search_rows (codes "t") body) ≡ unchanged plain (refused (cause.NoSuchName (codes "t")))
 search_template searching way body = refl
 
 -- all members of a stream are asked, at the present moment

@@ -26,7 +26,10 @@ use Rattle.synthetic_source.specs.declared.errors.DocKind.{DocKind}
 use Rattle.synthetic_source.specs.declared.errors.DocKind.TheVariants.{NoTime}
 use Rattle.tsds_service.specs.Caused.{with_cause}
 use Rattle.tsds_service.specs.CausedLaws.{bulks_caused, keys_caused}
-use Rattle.tsds_service.specs.Causes.{Wrong, Cause, ItemCause, only_create, no_stream, no_object, bad_time, outside, blocked, bad_document, conflict, full, item_said, bulk_cause, key_cause}
+use Rattle.tsds_service.specs.Causes.{Wrong, item_said, bulk_cause, key_cause}
+use Rattle.tsds_service.specs.declared.causes.Cause.{Cause}
+use Rattle.tsds_service.specs.declared.causes.ItemCause.{ItemCause}
+use Rattle.tsds_service.specs.declared.causes.ItemCause.TheVariants.{OnlyCreate, NoStream, NoObject, WrongTime, Outside, Blocked, BadDocument, Conflict, Full}
 use Rattle.tsds_service.specs.declared.reply.Reply.{Reply}
 
 -- the items of a body, or why it has none
@@ -43,8 +46,8 @@ pub data Outcome : Type 0 where
 -- there is no row of this series and time yet, and there is room
 abbrev pub by_place : List ℕ → PlainIndex → Row → Outcome
 by_place n i row =
-    if has_place row.key row.time i.rows then barred (conflict (id_of row.key row.time))
-    else (if is_full i.rows then barred (full n) else taken n row)
+    if has_place row.key row.time i.rows then barred (Conflict (id_of row.key row.time))
+    else (if is_full i.rows then barred (Full n) else taken n row)
 
 -- the key of a series, or why it has none
 abbrev pub key_of : Schema → List Cell → Result (List ℕ) ItemCause
@@ -58,7 +61,7 @@ by_key n i time cells (Err cause) = barred cause
 -- the document has no fault
 abbrev pub by_cells : List ℕ → PlainIndex → ℤ → Result (List Cell) (DocKind × List ℕ) → Outcome
 by_cells n i time (Ok cells) = by_key n i time cells (key_of i.facts.mapping.schema cells)
-by_cells n i time (Err fault) = barred (bad_document fault.0 fault.1)
+by_cells n i time (Err fault) = barred (BadDocument fault.0 fault.1)
 
 -- what the index's mapping makes of the document
 abbrev pub by_index : List ℕ → PlainIndex → ℤ → Data → Outcome
@@ -66,13 +69,13 @@ by_index n i time d = by_cells n i time (document_cells i.facts.mapping.schema i
 
 -- a member of the stream has the time in its window, and takes documents; a blocked one is told by its name
 abbrev pub by_pick : ℤ → Data → Option PlainIndex → Outcome
-by_pick time d None = barred (outside time)
-by_pick time d (Some i) = if i.facts.blocked then barred (blocked i.facts.name) else by_index i.facts.name i time d
+by_pick time d None = barred (Outside time)
+by_pick time d (Some i) = if i.facts.blocked then barred (Blocked i.facts.name) else by_index i.facts.name i time d
 
 -- the document has a time; where it has none, that is at fault
 abbrev pub by_time : PlainCatalog → PlainStream → Data → Option ℤ → Outcome
 by_time c s d (Some time) = by_pick time d (member_at c time s)
-by_time c s d None = barred (bad_time (unwrap_or (time_fault d) NoTime))
+by_time c s d None = barred (WrongTime (unwrap_or (time_fault d) NoTime))
 
 -- what comes of a document of a stream
 abbrev pub by_document : PlainCatalog → PlainStream → Data → Outcome
@@ -81,15 +84,15 @@ by_document c s d = by_time c s d (time_of d)
 -- a stream has the name, and the source is an object
 abbrev pub by_stream : PlainCatalog → List ℕ → Option (List ℕ) → Outcome
 by_stream c name source =
-    with_found (stream_named name c.streams) (barred (no_stream name)) (λ s.
-    with_found (option_and_then object_of source) (barred no_object) (by_document c s))
+    with_found (stream_named name c.streams) (barred (NoStream name)) (λ s.
+    with_found (option_and_then object_of source) (barred NoObject) (by_document c s))
 
 -- what comes of an item: streams take new documents alone
 abbrev pub by_action : PlainCatalog → Action → List ℕ → Option (List ℕ) → Outcome
 by_action c Create name source = by_stream c name source
-by_action c Index name source = barred only_create
-by_action c Update name source = barred only_create
-by_action c Delete name source = barred only_create
+by_action c Index name source = barred OnlyCreate
+by_action c Update name source = barred OnlyCreate
+by_action c Delete name source = barred OnlyCreate
 
 unfoldable pub item_outcome : PlainCatalog → Item → Outcome
 item_outcome c item = by_action c item.action item.stream item.source
@@ -123,17 +126,24 @@ wrong_tree stream w = Object (
     ∷ member (codes "status") (Num (pos w.status))
     ∷ member (codes "error") (Object (member (codes "type") (Word w.kind) ∷ member (codes "reason") (Word w.reason) ∷ [])) ∷ [])
 
-abbrev pub outcome_tree : List ℕ → Outcome → Out
-outcome_tree stream (taken index row) = Object (
+-- what is said of an item that an index took, under its id
+abbrev pub created_tree : List ℕ → List ℕ → Out
+created_tree index id = Object (
     member (codes "_index") (Word index)
-    ∷ member (codes "_id") (Word (id_of row.key row.time))
+    ∷ member (codes "_id") (Word id)
     ∷ member (codes "result") (Word (codes "created"))
     ∷ member (codes "status") (Num (pos 201)) ∷ [])
+
+abbrev pub outcome_tree : List ℕ → Outcome → Out
+outcome_tree stream (taken index row) = created_tree index (id_of row.key row.time)
 outcome_tree stream (barred cause) = wrong_tree stream (item_said cause)
 
 -- an object whose one member is named as the action
+abbrev pub under_action : Action → Out → Out
+under_action action said = Object (member (action_name action) said ∷ [])
+
 abbrev pub item_tree : Item → Outcome → Out
-item_tree item outcome = Object (member (action_name item.action) (outcome_tree item.stream outcome) ∷ [])
+item_tree item outcome = under_action item.action (outcome_tree item.stream outcome)
 
 abbrev pub item_trees : List Item → List Outcome → List Out
 item_trees (item ∷ items) (outcome ∷ outcomes) = item_tree item outcome ∷ item_trees items outcomes
@@ -143,8 +153,12 @@ abbrev pub is_barred : Outcome → Bool
 is_barred (taken index row) = false
 is_barred (barred cause) = true
 
-abbrev pub bulk_reply : List Item → List Outcome → Reply
-bulk_reply items outcomes = record {
+-- whether an item was barred, and what is said of all
+abbrev pub bulk_told : Bool → List Out → Reply
+bulk_told errors trees = record {
   status = 200;
-  body = Object (member (codes "errors") (Flag (list_any is_barred outcomes)) ∷ member (codes "items") (list (item_trees items outcomes)) ∷ []);
+  body = Object (member (codes "errors") (Flag errors) ∷ member (codes "items") (list trees) ∷ []);
 }
+
+abbrev pub bulk_reply : List Item → List Outcome → Reply
+bulk_reply items outcomes = bulk_told (list_any is_barred outcomes) (item_trees items outcomes)

@@ -64,8 +64,11 @@ use Rattle.tsds_service.specs.declared.reply.Reply.{Reply}
 use Rattle.tsds_service.specs.Turns.{asks, scripted, linked, works, dated, all_replies, left_behind, last_recorded}
 use Rattle.tsds_service.specs.Bulk.{Outcome, taken, barred, after_outcome, by_document, by_cells, by_key, by_place, item_outcome, outcomes_of, item_tree, bulk_reply}
 use Rattle.tsds_service.specs.CausedLaws.{keys_caused, same_with_causes}
-use Rattle.tsds_service.specs.Causes as cause
-use Rattle.tsds_service.specs.Causes.{Cause, ItemCause, wrong, reply_of, refused, said, item_said, only_create, no_stream, no_object, bad_time, outside, blocked, bad_document, no_routing, long_key, conflict, full, key_cause}
+use Rattle.tsds_service.specs.declared.causes.Cause.TheVariants as cause
+use Rattle.tsds_service.specs.Causes.{wrong, reply_of, refused, said, item_said, key_cause}
+use Rattle.tsds_service.specs.declared.causes.Cause.{Cause}
+use Rattle.tsds_service.specs.declared.causes.ItemCause.{ItemCause}
+use Rattle.tsds_service.specs.declared.causes.ItemCause.TheVariants.{OnlyCreate, NoStream, NoObject, WrongTime, Outside, Blocked, BadDocument, NoRouting, LongKey, Conflict, Full}
 
 abbrev pub schema : Schema
 schema = record {
@@ -115,15 +118,15 @@ two shut life tasks = record {
 abbrev pub item : Option (List ℕ) → Item
 item source = record { action = Create; stream = codes "s"; source = source }
 
-pub first_cause : item_outcome (two false None []) (record (item None) { action = Index }) ≡ barred only_create
+pub first_cause : item_outcome (two false None []) (record (item None) { action = Index }) ≡ barred OnlyCreate
 unfolding item_outcome
 first_cause = refl
 
-pub second_cause : item_outcome (two false None []) (record (item None) { stream = codes "x" }) ≡ barred (no_stream (codes "x"))
+pub second_cause : item_outcome (two false None []) (record (item None) { stream = codes "x" }) ≡ barred (NoStream (codes "x"))
 unfolding item_outcome
 second_cause = refl
 
-pub third_cause : item_outcome (two false None []) (item None) ≡ barred no_object
+pub third_cause : item_outcome (two false None []) (item None) ≡ barred NoObject
 unfolding item_outcome
 third_cause = refl
 
@@ -134,44 +137,44 @@ document host time value = object (member (codes "@timestamp") (number (unsigned
 abbrev pub outcome : Bool → Data → Outcome
 outcome shut d = by_document (two shut None []) (stream None) d
 
-pub fourth_cause : outcome false (object no_members) ≡ barred (bad_time NoTime)
+pub fourth_cause : outcome false (object no_members) ≡ barred (WrongTime NoTime)
 unfolding time_fault time_of leaf.leaves_of
 fourth_cause = refl
 
-pub fifth_cause : outcome false (document 97 20000 1) ≡ barred (outside (pos 20000))
+pub fifth_cause : outcome false (document 97 20000 1) ≡ barred (Outside (pos 20000))
 unfolding time_fault time_of leaf.leaves_of
 fifth_cause = refl
 
-pub sixth_cause : outcome true (document 97 1600 1) ≡ barred (blocked (codes "a"))
+pub sixth_cause : outcome true (document 97 1600 1) ≡ barred (Blocked (codes "a"))
 unfolding time_fault time_of leaf.leaves_of
 sixth_cause = refl
 
-pub seventh_cause : outcome false (object (member (codes "@timestamp") (number (unsigned 1600)) (member (codes "x") (number (unsigned 1)) no_members))) ≡ barred (bad_document Unmapped (codes "x"))
+pub seventh_cause : outcome false (object (member (codes "@timestamp") (number (unsigned 1600)) (member (codes "x") (number (unsigned 1)) no_members))) ≡ barred (BadDocument Unmapped (codes "x"))
 unfolding time_fault time_of leaf.leaves_of document_cells fault_at
 seventh_cause = refl
 
-pub eighth_cause : outcome false (object (member (codes "@timestamp") (number (unsigned 1600)) (member (codes "req") (number (unsigned 1)) no_members))) ≡ barred no_routing
+pub eighth_cause : outcome false (object (member (codes "@timestamp") (number (unsigned 1600)) (member (codes "req") (number (unsigned 1)) no_members))) ≡ barred NoRouting
 unfolding time_fault time_of leaf.leaves_of document_cells fault_at
 eighth_cause = refl
 
-pub ninth_cause : (i : PlainIndex) (cells : List Cell) → keyed i.facts.mapping.schema cells ≡ Err (KeyTooLong 4105) → by_cells (codes "a") i (pos 1600) (Ok cells) ≡ barred (long_key 4105)
+pub ninth_cause : (i : PlainIndex) (cells : List Cell) → keyed i.facts.mapping.schema cells ≡ Err (KeyTooLong 4105) → by_cells (codes "a") i (pos 1600) (Ok cells) ≡ barred (LongKey 4105)
 ninth_cause i cells is =
     let same = same_with_causes key_cause (keyed i.facts.mapping.schema cells) (keys_caused i.facts.mapping.schema cells) in
-    ap (by_key (codes "a") i (pos 1600) cells) (same.error (KeyTooLong 4105) (long_key 4105) is refl)
+    ap (by_key (codes "a") i (pos 1600) cells) (same.error (KeyTooLong 4105) (LongKey 4105) is refl)
 
-pub tenth_cause : outcome false (document 98 1100 1) ≡ barred (conflict (id_of (key 98) (pos 1100)))
+pub tenth_cause : outcome false (document 98 1100 1) ≡ barred (Conflict (id_of (key 98) (pos 1100)))
 unfolding time_fault time_of leaf.leaves_of document_cells fault_at is_utf8 chars encode_utf8
 tenth_cause = refl
 
-pub eleventh_cause : (i : PlainIndex) (row : Row) → has_place row.key row.time i.rows ≡ false → is_full i.rows ≡ true → by_place (codes "a") i row ≡ barred (full (codes "a"))
+pub eleventh_cause : (i : PlainIndex) (row : Row) → has_place row.key row.time i.rows ≡ false → is_full i.rows ≡ true → by_place (codes "a") i row ≡ barred (Full (codes "a"))
 eleventh_cause i row free is = rw (free, is) refl
 
 -- where two of them hold the earlier one is told: a blocked index before a fault, a taken place before a full index
-pub blocked_first : outcome true (object (member (codes "@timestamp") (number (unsigned 1600)) (member (codes "x") (number (unsigned 1)) no_members))) ≡ barred (blocked (codes "a"))
+pub blocked_first : outcome true (object (member (codes "@timestamp") (number (unsigned 1600)) (member (codes "x") (number (unsigned 1)) no_members))) ≡ barred (Blocked (codes "a"))
 unfolding time_fault time_of leaf.leaves_of
 blocked_first = refl
 
-pub conflict_first : (i : PlainIndex) (row : Row) → has_place row.key row.time i.rows ≡ true → is_full i.rows ≡ true → by_place (codes "a") i row ≡ barred (conflict (id_of row.key row.time))
+pub conflict_first : (i : PlainIndex) (row : Row) → has_place row.key row.time i.rows ≡ true → is_full i.rows ≡ true → by_place (codes "a") i row ≡ barred (Conflict (id_of row.key row.time))
 conflict_first i row held is = rw held refl
 
 -- a document that nothing bars
@@ -183,7 +186,7 @@ taken_item = refl
 pub put_left : after_outcome plain_way (two false None []) (taken (codes "a") (row_at 97 1600 1)) ≡ put_into plain_way (two false None []) (codes "a") (row_at 97 1600 1)
 put_left = refl
 
-pub barred_left : after_outcome plain_way (two false None []) (barred no_object) ≡ two false None []
+pub barred_left : after_outcome plain_way (two false None []) (barred NoObject) ≡ two false None []
 barred_left = refl
 
 -- ---- steps
@@ -204,13 +207,13 @@ fold_reply = refl
 pub fold_left : names (downsample_by plain_way (machine true None []) (codes "a") (codes "c") (Some second)).machine.catalog ≡ codes "a" ∷ codes "b" ∷ codes "c" ∷ []
 fold_left = refl
 
-pub fold_refused : downsample_by plain_way (machine false None []) (codes "a") (codes "c") (Some second) ≡ unchanged (machine false None []) (refused (cause.not_blocked (codes "a")))
+pub fold_refused : downsample_by plain_way (machine false None []) (codes "a") (codes "c") (Some second) ≡ unchanged (machine false None []) (refused (cause.NotBlocked (codes "a")))
 fold_refused = refl
 
-pub fold_named : downsample_by plain_way (machine true None []) (codes "x") (codes "c") None ≡ unchanged (machine true None []) (refused (cause.no_such_name (codes "x")))
+pub fold_named : downsample_by plain_way (machine true None []) (codes "x") (codes "c") None ≡ unchanged (machine true None []) (refused (cause.NoSuchName (codes "x")))
 fold_named = refl
 
-pub fold_bodiless : downsample_by plain_way (machine true None []) (codes "a") (codes "c") None ≡ unchanged (machine true None []) (refused cause.bad_body)
+pub fold_bodiless : downsample_by plain_way (machine true None []) (codes "a") (codes "c") None ≡ unchanged (machine true None []) (refused cause.BadBody)
 fold_bodiless = refl
 
 -- an index that has an interval takes a greater multiple of it alone
@@ -227,13 +230,13 @@ folded_machine = record (machine true None []) {
   };
 }
 
-pub fold_same : downsample_by plain_way folded_machine (codes "a") (codes "c") (Some two_seconds) ≡ unchanged folded_machine (refused (cause.not_greater (interval_word two_seconds) (interval_word two_seconds)))
+pub fold_same : downsample_by plain_way folded_machine (codes "a") (codes "c") (Some two_seconds) ≡ unchanged folded_machine (refused (cause.NotGreater (interval_word two_seconds) (interval_word two_seconds)))
 fold_same = refl
 
-pub fold_between : downsample_by plain_way folded_machine (codes "a") (codes "c") (Some three_seconds) ≡ unchanged folded_machine (refused (cause.not_multiple (interval_word three_seconds) (interval_word two_seconds)))
+pub fold_between : downsample_by plain_way folded_machine (codes "a") (codes "c") (Some three_seconds) ≡ unchanged folded_machine (refused (cause.NotMultiple (interval_word three_seconds) (interval_word two_seconds)))
 fold_between = refl
 
-pub fold_lesser : downsample_by plain_way folded_machine (codes "a") (codes "c") (Some second) ≡ unchanged folded_machine (refused (cause.not_greater (interval_word second) (interval_word two_seconds)))
+pub fold_lesser : downsample_by plain_way folded_machine (codes "a") (codes "c") (Some second) ≡ unchanged folded_machine (refused (cause.NotGreater (interval_word second) (interval_word two_seconds)))
 fold_lesser = refl
 
 -- with the last series a fold stands in the place of its index, in its stream too; not before
@@ -253,7 +256,7 @@ abbrev remove : List ℕ → Data
 remove index = object (member (codes "remove_backing_index") (object (member (codes "data_stream") (string (codes "s")) (member (codes "index") (string index) no_members))) no_members)
 
 pub move_refused : modify (folding 1) (object (member (codes "actions") (array (element (remove (codes "a")) (element (remove (codes "b")) no_items))) no_members))
-    ≡ unchanged (folding 1) (refused (cause.is_write_index (codes "b") (codes "s")))
+    ≡ unchanged (folding 1) (refused (cause.IsWriteIndex (codes "b") (codes "s")))
 move_refused = refl
 
 -- a removal ends the task of its member
@@ -276,7 +279,7 @@ unfolding lifecycle_run
 run_deletes = refl
 
 -- the moment becomes the present, also where the request is refused; without records nothing is flushed
-pub flush_refused : (searching : Searching) → step searching plain_way (machine false None []) flush (pos 16000) ≡ unchanged (record (machine false None []) { now = pos 16000 }) (refused cause.no_data)
+pub flush_refused : (searching : Searching) → step searching plain_way (machine false None []) flush (pos 16000) ≡ unchanged (record (machine false None []) { now = pos 16000 }) (refused cause.NoData)
 unfolding step
 flush_refused searching = refl
 
@@ -284,10 +287,10 @@ flush_refused searching = refl
 pub moment_same : moment_by (pos 5) (Some (pos 5)) ≡ record { reply = None; now = pos 5 }
 moment_same = refl
 
-pub moment_earlier : moment_by (pos 5) (Some (pos 4)) ≡ record { reply = Some (refused cause.bad_moment); now = pos 5 }
+pub moment_earlier : moment_by (pos 5) (Some (pos 4)) ≡ record { reply = Some (refused cause.BadMoment); now = pos 5 }
 moment_earlier = refl
 
-pub moment_unread : moment_by (pos 5) None ≡ record { reply = Some (refused cause.bad_moment); now = pos 5 }
+pub moment_unread : moment_by (pos 5) None ≡ record { reply = Some (refused cause.BadMoment); now = pos 5 }
 moment_unread = refl
 
 -- ---- what a catalogue refuses, through the step to the text; the machine stays
@@ -371,7 +374,7 @@ step_indices is most = rw most refl
 
 -- a next index whose name is taken
 pub step_next_taken : (is : List PlainIndex) → nat_le most_indices (length (crowd is).indices) ≡ false → is_taken (next_name (stream None) (pos 15000)) (crowd is) ≡ true →
-    rollover (crowded is) (codes "s") ≡ unchanged (crowded is) (refused (cause.name_taken (next_name (stream None) (pos 15000))))
+    rollover (crowded is) (codes "s") ≡ unchanged (crowded is) (refused (cause.NameTaken (next_name (stream None) (pos 15000))))
 step_next_taken is room held = rw (room, held) refl
 
 -- a fold for which there is no room
@@ -390,7 +393,7 @@ step_first_indices m free there room most = rw (free, there, room, most) refl
 
 pub step_first_taken : (m : Machine) → is_taken (codes "s") (facts_of m.catalog) ≡ false → is_some (template_for (codes "s") m.catalog.templates) ≡ true →
     nat_le most_streams (length m.catalog.streams) ≡ false → nat_le most_indices (length (facts_of m.catalog).indices) ≡ false → is_taken (first_name (codes "s") m.now) (facts_of m.catalog) ≡ true →
-    put_stream m (codes "s") ≡ unchanged m (refused (cause.name_taken (first_name (codes "s") m.now)))
+    put_stream m (codes "s") ≡ unchanged m (refused (cause.NameTaken (first_name (codes "s") m.now)))
 step_first_taken m free there few room held = rw (free, there, few, room, held) refl
 
 -- templates, of whatever body
@@ -410,7 +413,7 @@ step_faulty body = refl
 
 -- a reading that is refused leaves the moment, and the task goes on by a series all the same
 pub told_refused : (searching : Searching) →
-    message_told searching plain_way (folding 0) (pos 16000) (codes "GET") (codes "x") [] ≡ record { reply = refused cause.no_such_path; stepped = folding 0; after = folding 1; wrote = false }
+    message_told searching plain_way (folding 0) (pos 16000) (codes "GET") (codes "x") [] ≡ record { reply = refused cause.NoSuchPath; stepped = folding 0; after = folding 1; wrote = false }
 unfolding message_told request_of unit_of
 told_refused searching = refl
 
@@ -442,7 +445,7 @@ abbrev twice : List ℕ → List Item
 twice source = item (Some source) ∷ item (Some source) ∷ []
 
 abbrev told_twice : List Outcome
-told_twice = taken (codes "a") (row_at 97 1600 1) ∷ barred (conflict (id_of (key 97) (pos 1600))) ∷ []
+told_twice = taken (codes "a") (row_at 97 1600 1) ∷ barred (Conflict (id_of (key 97) (pos 1600))) ∷ []
 
 pub twice_plain : (source : List ℕ) → object_of source ≡ Some (document 97 1600 1) → outcomes_of plain_way (two false None []) (twice source) ≡ told_twice
 unfolding item_outcome time_fault time_of leaf.leaves_of document_cells fault_at is_utf8 chars encode_utf8
@@ -557,7 +560,7 @@ tasks_tree = refl
 pub no_tasks_tree : tasks_reply (machine false None []).catalog ≡ record { status = 200; body = Object (tree.member (codes "tasks") (Listed []) ∷ []) }
 no_tasks_tree = refl
 
-pub refused_tree : refused (cause.no_such_name (codes "m")) ≡ record {
+pub refused_tree : refused (cause.NoSuchName (codes "m")) ≡ record {
   status = 404;
   body = Object (
       tree.member (codes "error") (Object (
@@ -575,7 +578,7 @@ pub taken_tree : item_tree (item None) (taken (codes "a") (row_at 97 1600 1)) �
     ∷ tree.member (codes "status") (Num (pos 201)) ∷ [])) ∷ [])
 taken_tree = refl
 
-pub barred_tree : bulk_reply (item None ∷ []) (barred (conflict (codes "x")) ∷ []) ≡ record {
+pub barred_tree : bulk_reply (item None ∷ []) (barred (Conflict (codes "x")) ∷ []) ≡ record {
   status = 200;
   body = Object (
       tree.member (codes "errors") (Flag true)
@@ -619,7 +622,7 @@ missing_tree = refl
 pub missing_document : get_document plain_way (machine false None []) (codes "b") (codes "x") ≡ unchanged (machine false None []) (no_document (codes "b") (codes "x"))
 missing_document = refl
 
-pub missing_index : get_document plain_way (machine false None []) (codes "s") (codes "x") ≡ unchanged (machine false None []) (refused (cause.no_such_name (codes "s")))
+pub missing_index : get_document plain_way (machine false None []) (codes "s") (codes "x") ≡ unchanged (machine false None []) (refused (cause.NoSuchName (codes "s")))
 missing_index = refl
 
 -- ---- statuses and types
@@ -641,70 +644,70 @@ document_parsing = (400, codes "document_parsing_exception")
 
 abbrev arguments : List Cause
 arguments =
-    cause.no_such_path ∷ cause.bad_parameter ∷ cause.bad_moment ∷ cause.reserved [] ∷ cause.no_template [] ∷ cause.is_write_index [] []
-    ∷ cause.not_blocked [] ∷ cause.not_greater [] [] ∷ cause.not_multiple [] [] ∷ cause.not_member [] [] ∷ cause.is_member [] []
-    ∷ cause.other_mapping [] [] ∷ cause.bad_window [] [] ∷ cause.changed_field [] [] ∷ cause.time_over [] ∷ cause.limit Streams
-    ∷ cause.no_data ∷ cause.bad_action 1 ∷ cause.missing_source 1 ∷ cause.no_items ∷ cause.wrong_field [] [] ∷ cause.no_increase []
-    ∷ cause.window_too_large 1 ∷ cause.bad_sort_field [] ∷ []
+    cause.NoSuchPath ∷ cause.BadParameter ∷ cause.BadMoment ∷ cause.Reserved [] ∷ cause.NoTemplate [] ∷ cause.IsWriteIndex [] []
+    ∷ cause.NotBlocked [] ∷ cause.NotGreater [] [] ∷ cause.NotMultiple [] [] ∷ cause.NotMember [] [] ∷ cause.IsMember [] []
+    ∷ cause.OtherMapping [] [] ∷ cause.BadWindow [] [] ∷ cause.ChangedField [] [] ∷ cause.TimeOver [] ∷ cause.Limit Streams
+    ∷ cause.NoData ∷ cause.BadAction 1 ∷ cause.MissingSource 1 ∷ cause.NoItems ∷ cause.WrongField [] [] ∷ cause.NoIncrease []
+    ∷ cause.WindowTooLarge 1 ∷ cause.BadSortField [] ∷ []
 
 pub argument_kinds : map {B = ℕ × List ℕ} kind_of arguments ≡ map {B = ℕ × List ℕ} (λ c. argument) arguments
 argument_kinds = refl
 
-pub parse_kinds : map {B = ℕ × List ℕ} kind_of (cause.bad_body ∷ cause.bad_query ∷ cause.bad_aggregation ∷ cause.bad_sort ∷ []) ≡ parse ∷ parse ∷ parse ∷ parse ∷ []
+pub parse_kinds : map {B = ℕ × List ℕ} kind_of (cause.BadBody ∷ cause.BadQuery ∷ cause.BadAggregation ∷ cause.BadSort ∷ []) ≡ parse ∷ parse ∷ parse ∷ parse ∷ []
 parse_kinds = refl
 
-pub other_kinds : map {B = ℕ × List ℕ} kind_of (cause.bad_method ∷ cause.no_such_name [] ∷ cause.name_taken [] ∷ cause.bad_template Shape [] ∷ cause.wrong_value [] ∷ cause.too_many_buckets ∷ [])
+pub other_kinds : map {B = ℕ × List ℕ} kind_of (cause.BadMethod ∷ cause.NoSuchName [] ∷ cause.NameTaken [] ∷ cause.BadTemplate Shape [] ∷ cause.WrongValue [] ∷ cause.TooManyBuckets ∷ [])
     ≡ (405, codes "illegal_argument_exception") ∷ (404, codes "index_not_found_exception") ∷ (400, codes "resource_already_exists_exception")
     ∷ (400, codes "mapper_parsing_exception") ∷ (400, codes "query_shard_exception") ∷ (400, codes "too_many_buckets_exception") ∷ []
 other_kinds = refl
 
-pub link_kinds : map {B = ℕ × List ℕ} kind_of (cause.bad_head ∷ cause.needs_length ∷ cause.body_too_large ∷ [])
+pub link_kinds : map {B = ℕ × List ℕ} kind_of (cause.BadHead ∷ cause.NeedsLength ∷ cause.BodyTooLarge ∷ [])
     ≡ argument ∷ (411, codes "illegal_argument_exception") ∷ (413, codes "illegal_argument_exception") ∷ []
 link_kinds = refl
 
 -- the causes of items in their order
-pub item_kinds : map {B = ℕ × List ℕ} item_kind_of (only_create ∷ no_stream [] ∷ no_object ∷ bad_time NoTime ∷ outside (pos 0) ∷ blocked [] ∷ bad_document Unmapped [] ∷ no_routing ∷ long_key 1 ∷ conflict [] ∷ full [] ∷ [])
+pub item_kinds : map {B = ℕ × List ℕ} item_kind_of (OnlyCreate ∷ NoStream [] ∷ NoObject ∷ WrongTime NoTime ∷ Outside (pos 0) ∷ Blocked [] ∷ BadDocument Unmapped [] ∷ NoRouting ∷ LongKey 1 ∷ Conflict [] ∷ Full [] ∷ [])
     ≡ argument ∷ (404, codes "index_not_found_exception") ∷ document_parsing ∷ document_parsing ∷ argument ∷ (403, codes "cluster_block_exception")
     ∷ (400, codes "strict_dynamic_mapping_exception") ∷ argument ∷ argument ∷ (409, codes "version_conflict_engine_exception") ∷ (429, codes "es_rejected_execution_exception") ∷ []
 item_kinds = refl
 
-pub document_kinds : map {B = ℕ × List ℕ} item_kind_of (bad_document NotLeaf [] ∷ bad_document WrongType [] ∷ bad_document ManyValues [] ∷ bad_document BadAggregate [] ∷ [])
+pub document_kinds : map {B = ℕ × List ℕ} item_kind_of (BadDocument NotLeaf [] ∷ BadDocument WrongType [] ∷ BadDocument ManyValues [] ∷ BadDocument BadAggregate [] ∷ [])
     ≡ document_parsing ∷ document_parsing ∷ document_parsing ∷ document_parsing ∷ []
 document_kinds = refl
 
 -- ---- texts
 
-pub no_name_text : (said (cause.no_such_name (codes "m"))).reason ≡ codes "no such index [m]"
+pub no_name_text : (said (cause.NoSuchName (codes "m"))).reason ≡ codes "no such index [m]"
 no_name_text = refl
 
-pub multiple_text : (said (cause.not_multiple (codes "90s") (codes "1m"))).reason ≡ codes "interval [90s] must be a multiple of [1m]"
+pub multiple_text : (said (cause.NotMultiple (codes "90s") (codes "1m"))).reason ≡ codes "interval [90s] must be a multiple of [1m]"
 multiple_text = refl
 
-pub greater_text : (said (cause.not_greater (codes "1m") (codes "1m"))).reason ≡ codes "interval [1m] must be greater than [1m]"
+pub greater_text : (said (cause.NotGreater (codes "1m") (codes "1m"))).reason ≡ codes "interval [1m] must be greater than [1m]"
 greater_text = refl
 
-pub member_text : (said (cause.is_member (codes "i") (codes "s"))).reason ≡ codes "[i] is a backing index of [s]"
+pub member_text : (said (cause.IsMember (codes "i") (codes "s"))).reason ≡ codes "[i] is a backing index of [s]"
 member_text = refl
 
-pub window_text : (said (cause.bad_window (codes "i") (codes "s"))).reason ≡ codes "window of [i] does not fit [s]"
+pub window_text : (said (cause.BadWindow (codes "i") (codes "s"))).reason ≡ codes "window of [i] does not fit [s]"
 window_text = refl
 
-pub mapped_text : (said (cause.changed_field (codes "p") (codes "i"))).reason ≡ codes "field [p] is mapped in another way in [i]"
+pub mapped_text : (said (cause.ChangedField (codes "p") (codes "i"))).reason ≡ codes "field [p] is mapped in another way in [i]"
 mapped_text = refl
 
-pub limit_text : (said (cause.limit Streams)).reason ≡ codes "limit of [streams] reached"
+pub limit_text : (said (cause.Limit Streams)).reason ≡ codes "limit of [streams] reached"
 limit_text = refl
 
-pub buckets_text : (said cause.too_many_buckets).reason ≡ codes "more than [65536] buckets"
+pub buckets_text : (said cause.TooManyBuckets).reason ≡ codes "more than [65536] buckets"
 unfolding digits
 buckets_text = refl
 
-pub hits_text : (said (cause.window_too_large 10001)).reason ≡ codes "from + size must be at most [10000] but was [10001]"
+pub hits_text : (said (cause.WindowTooLarge 10001)).reason ≡ codes "from + size must be at most [10000] but was [10001]"
 unfolding digits
 hits_text = refl
 
-pub conflict_text : (item_said (conflict (codes "id"))).reason ≡ codes "[id]: version conflict, document already exists"
+pub conflict_text : (item_said (Conflict (codes "id"))).reason ≡ codes "[id]: version conflict, document already exists"
 conflict_text = refl
 
-pub unmapped_text : (item_said (bad_document Unmapped (codes "x"))).reason ≡ codes "Unmapped [x]"
+pub unmapped_text : (item_said (BadDocument Unmapped (codes "x"))).reason ≡ codes "Unmapped [x]"
 unmapped_text = refl

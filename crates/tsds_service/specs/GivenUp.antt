@@ -4,7 +4,7 @@ use Rattle.bulk_json.specs.declared.items.Item.{Item}
 use Rattle.rest_request.specs.Message.{Message, bulk}
 use Rattle.stream_catalog.specs.Ways.{Way}
 use Rattle.tsds_service.specs.Bulk.{items_of, after_first}
-use Rattle.tsds_service.specs.Causes.{Cause}
+use Rattle.tsds_service.specs.declared.causes.Cause.{Cause}
 use Rattle.tsds_service.specs.Machine.{Machine}
 
 -- the first k of a body's items are done, where it has items

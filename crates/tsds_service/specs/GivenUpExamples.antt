@@ -5,7 +5,7 @@ use Rattle.bulk_json.specs.declared.items.Item.{Item}
 use Rattle.rest_request.specs.Message.{bulk, rollover}
 use Rattle.stream_catalog.specs.Ways.{Way}
 use Rattle.tsds_service.specs.Bulk.{items_of, after_item, after_items}
-use Rattle.tsds_service.specs.Causes.{Cause}
+use Rattle.tsds_service.specs.declared.causes.Cause.{Cause}
 use Rattle.tsds_service.specs.GivenUp.{given_up}
 use Rattle.tsds_service.specs.Machine.{Machine}
 use Rattle.tsds_service.specs.Questions.{Searching}

@@ -7,7 +7,8 @@ use Rattle.row_cells.specs.declared.schemas.Role.TheVariants.{Time, Dimension, G
 use Rattle.stream_catalog.specs.declared.facts.HeldIndex.{HeldIndex}
 use Rattle.time_text.specs.declared.intervals.Interval.{Interval}
 use Rattle.time_text.specs.declared.units.Unit.TheVariants.{S}
-use Rattle.tsds_service.specs.Causes.{no_increase, refused, wrong, reply_of}
+use Rattle.tsds_service.specs.Causes.{refused, wrong, reply_of}
+use Rattle.tsds_service.specs.declared.causes.Cause.TheVariants.{NoIncrease}
 use Rattle.tsds_service.specs.NoIncrease.{keeps_no_increase, increase_refusal}
 
 abbrev second : Interval
@@ -52,8 +53,8 @@ no_path = refl
 pub no_counter : keeps_no_increase (codes "req") (member (codes "g") 0 (Some second) false Gauge ∷ []) ≡ None
 no_counter = refl
 
-pub told : increase_refusal (codes "mem" ∷ codes "req" ∷ []) members ≡ Some (no_increase (codes "m"))
+pub told : increase_refusal (codes "mem" ∷ codes "req" ∷ []) members ≡ Some (NoIncrease (codes "m"))
 told = refl
 
-pub text : refused (no_increase (codes "m")) ≡ reply_of (wrong 400 (codes "illegal_argument_exception") (codes "index [m] keeps no increase"))
+pub text : refused (NoIncrease (codes "m")) ≡ reply_of (wrong 400 (codes "illegal_argument_exception") (codes "index [m] keeps no increase"))
 text = refl

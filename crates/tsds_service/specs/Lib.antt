@@ -11,6 +11,7 @@ pub mod GivenUpExamples
 pub mod GivenUpLaws
 pub mod IncreaseExamples
 pub mod ItemExamples
+pub mod ItemTimes
 pub mod Laws
 pub mod Limits
 pub mod Machine

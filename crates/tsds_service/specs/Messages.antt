@@ -6,10 +6,13 @@ use Rattle.stream_catalog.specs.Ways.{Way}
 use Rattle.time_text.specs.Instant.{instant_of}
 use Rattle.tsds_service.specs.Caused.{with_cause}
 use Rattle.tsds_service.specs.CausedLaws.{requests_caused}
-use Rattle.tsds_service.specs.Causes.{Cause, refused, request_cause, bad_moment}
+use Rattle.tsds_service.specs.Causes.{refused, request_cause}
+use Rattle.tsds_service.specs.declared.causes.Cause.{Cause}
+use Rattle.tsds_service.specs.declared.causes.Cause.TheVariants.{BadMoment}
 use Rattle.tsds_service.specs.Machine.{Machine, see, unit}
 use Rattle.tsds_service.specs.Questions.{Searching}
 use Rattle.tsds_service.specs.Requests.{Stepped, step}
+use Rattle.tsds_service.specs.declared.moments.MomentTold.{MomentTold}
 use Rattle.tsds_service.specs.declared.reply.Reply.{Reply}
 
 -- the reply, the machine right after the step, the machine after its unit, and whether the stepped machine's records were written
@@ -40,13 +43,8 @@ message_told searching way m now method target body = by_reading searching way m
 
 -- ---- moment lines
 
--- the present after a moment line, and the reply where it is refused; the machine stays, and no unit follows
-pub record MomentTold : Type 0 where
-  pub reply : Option Reply
-  pub now : ℤ
-
 abbrev pub moment_kept : ℤ → MomentTold
-moment_kept now = record { reply = Some (refused bad_moment); now = now }
+moment_kept now = record { reply = Some (refused BadMoment); now = now }
 
 abbrev pub moment_by : ℤ → Option ℤ → MomentTold
 moment_by now None = moment_kept now

@@ -9,7 +9,8 @@ use Rattle.row_cells.specs.declared.schemas.Role.{Role}
 use Rattle.row_cells.specs.declared.schemas.Role.TheVariants.{Time, Dimension, Gauge, Counter, Label}
 use Rattle.stream_catalog.specs.declared.facts.HeldIndex.{HeldIndex}
 use Rattle.stream_catalog.specs.Lists.{facts_name}
-use Rattle.tsds_service.specs.Causes.{Cause, no_increase}
+use Rattle.tsds_service.specs.declared.causes.Cause.{Cause}
+use Rattle.tsds_service.specs.declared.causes.Cause.TheVariants.{NoIncrease}
 
 abbrev pub counts : Role → Bool
 counts Time = false
@@ -40,4 +41,4 @@ keeps_no_increase path is = least_name (map facts_name (filter (keeps_none path)
 
 -- of all paths of which a body asks the increase
 abbrev pub increase_refusal : List (List ℕ) → List HeldIndex → Option Cause
-increase_refusal paths is = option_map no_increase (least_name (filter_map (λ path. keeps_no_increase path is) paths))
+increase_refusal paths is = option_map NoIncrease (least_name (filter_map (λ path. keeps_no_increase path is) paths))

@@ -10,6 +10,7 @@ use Rattle.stream_catalog.specs.Plain.{PlainStream, PlainCatalog, PlainFacts}
 use Rattle.stream_catalog.specs.declared.answers.Ran.{Ran}
 use Rattle.stream_catalog.specs.declared.answers.Rolled.{Rolled}
 use Rattle.stream_catalog.specs.declared.facts.HeldIndex.{HeldIndex}
+use Rattle.stream_catalog.specs.declared.facts.StreamFacts.{StreamFacts}
 use Rattle.stream_catalog.specs.declared.facts.TaskFacts.{TaskFacts}
 use Rattle.time_text.specs.Interval.{interval_text}
 use Rattle.time_text.specs.Printed.{instant_text}
@@ -43,20 +44,24 @@ member_tree i = Object (
     ∷ member (codes "fixed_interval") (interval_tree i.interval)
     ∷ member (codes "blocked") (Flag i.blocked) ∷ [])
 
+-- a stream, with the trees of its members by the starts of their windows
+abbrev pub stream_tree : StreamFacts → List Out → Out
+stream_tree s members = Object (
+    member (codes "name") (Word s.name)
+    ∷ member (codes "timestamp_field") (Object (member (codes "name") (Word (codes "@timestamp")) ∷ []))
+    ∷ member (codes "indices") (list members)
+    ∷ member (codes "generation") (Num (pos s.generation))
+    ∷ member (codes "template") (Word s.template) ∷ [])
+
+abbrev pub stream_told : StreamFacts → List Out → Reply
+stream_told s members = accepted (member (codes "data_streams") (list (stream_tree s members ∷ [])) ∷ [])
+
 -- members stand by the starts of their windows
 abbrev pub member_trees : PlainFacts → PlainStream → List Out
 member_trees f s = map member_tree (filter_map (λ n. facts_named n f.indices) s.facts.members)
 
-abbrev pub stream_tree : PlainFacts → PlainStream → Out
-stream_tree f s = Object (
-    member (codes "name") (Word s.facts.name)
-    ∷ member (codes "timestamp_field") (Object (member (codes "name") (Word (codes "@timestamp")) ∷ []))
-    ∷ member (codes "indices") (list (member_trees f s))
-    ∷ member (codes "generation") (Num (pos s.facts.generation))
-    ∷ member (codes "template") (Word s.facts.template) ∷ [])
-
 abbrev pub stream_reply : PlainFacts → PlainStream → Reply
-stream_reply f s = accepted (member (codes "data_streams") (list (stream_tree f s ∷ [])) ∷ [])
+stream_reply f s = stream_told s.facts (member_trees f s)
 
 abbrev pub rolled_reply : Rolled → Reply
 rolled_reply r = accepted (

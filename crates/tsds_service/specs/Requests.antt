@@ -23,11 +23,13 @@ use Rattle.ts_mapping.specs.Templates.{template_of}
 use Rattle.ts_mapping.specs.declared.faults.Fault.{Fault}
 use Rattle.tsds_service.specs.Bodies.{fixed_interval_of, moves_of}
 use Rattle.tsds_service.specs.Bulk.{items_of, outcomes_of, after_items, bulk_reply}
-use Rattle.tsds_service.specs.Causes as cause
-use Rattle.tsds_service.specs.Causes.{Cause, refused}
+use Rattle.tsds_service.specs.declared.causes.Cause.TheVariants as cause
+use Rattle.tsds_service.specs.Causes.{refused}
+use Rattle.tsds_service.specs.declared.causes.Cause.{Cause}
 use Rattle.tsds_service.specs.Machine.{Machine, see}
 use Rattle.tsds_service.specs.Questions.{Searching, facts_in, samples_of, target_of, get_reply}
 use Rattle.tsds_service.specs.Replies.{ack, interval_word, stream_reply, rolled_reply, blocked_reply, ran_reply, tasks_reply}
+use Rattle.tsds_service.specs.declared.layer_causes.About.{About}
 use Rattle.tsds_service.specs.declared.reply.Reply.{Reply}
 
 -- a reply, the machine then, and whether its records were written
@@ -56,30 +58,23 @@ unless (Some c) m answer = unchanged m (refused c)
 
 -- ---- causes of what a catalogue refuses
 
--- what a request is about, where the catalogue doesn't say it: the new name, the index that it changes, and the intervals
-pub record About : Type 0 where
-  pub name : List ℕ
-  pub index : List ℕ
-  pub by : List ℕ
-  pub had : List ℕ
-
 -- what a refusal is told as
 abbrev pub catalog_cause : About → Refusal → Cause
-catalog_cause a (of_catalog.NoSuchName name) = cause.no_such_name name
-catalog_cause a (of_catalog.NameTaken name) = cause.name_taken name
-catalog_cause a of_catalog.NoTemplate = cause.no_template a.name
-catalog_cause a of_catalog.Reserved = cause.reserved a.name
-catalog_cause a (of_catalog.IsWriteIndex stream index) = cause.is_write_index index stream
-catalog_cause a of_catalog.NotBlocked = cause.not_blocked a.index
-catalog_cause a (of_catalog.Interval (NotGreater had asked)) = cause.not_greater a.by a.had
-catalog_cause a (of_catalog.Interval (NotMultiple had asked)) = cause.not_multiple a.by a.had
-catalog_cause a (of_catalog.NotMember stream index) = cause.not_member index stream
-catalog_cause a (of_catalog.IsMember stream index) = cause.is_member index stream
-catalog_cause a (of_catalog.OtherMapping stream index) = cause.other_mapping index stream
-catalog_cause a (of_catalog.BadWindow stream index) = cause.bad_window index stream
-catalog_cause a (of_catalog.Limit what) = cause.limit what
-catalog_cause a of_catalog.TimeOver = cause.time_over a.index
-catalog_cause a (of_catalog.ChangedField path index) = cause.changed_field path index
+catalog_cause a (of_catalog.NoSuchName name) = cause.NoSuchName name
+catalog_cause a (of_catalog.NameTaken name) = cause.NameTaken name
+catalog_cause a of_catalog.NoTemplate = cause.NoTemplate a.name
+catalog_cause a of_catalog.Reserved = cause.Reserved a.name
+catalog_cause a (of_catalog.IsWriteIndex stream index) = cause.IsWriteIndex index stream
+catalog_cause a of_catalog.NotBlocked = cause.NotBlocked a.index
+catalog_cause a (of_catalog.Interval (NotGreater had asked)) = cause.NotGreater a.by a.had
+catalog_cause a (of_catalog.Interval (NotMultiple had asked)) = cause.NotMultiple a.by a.had
+catalog_cause a (of_catalog.NotMember stream index) = cause.NotMember index stream
+catalog_cause a (of_catalog.IsMember stream index) = cause.IsMember index stream
+catalog_cause a (of_catalog.OtherMapping stream index) = cause.OtherMapping index stream
+catalog_cause a (of_catalog.BadWindow stream index) = cause.BadWindow index stream
+catalog_cause a (of_catalog.Limit what) = cause.Limit what
+catalog_cause a of_catalog.TimeOver = cause.TimeOver a.index
+catalog_cause a (of_catalog.ChangedField path index) = cause.ChangedField path index
 
 -- what asks for a new name alone
 abbrev pub about_name : List ℕ → About
@@ -94,7 +89,7 @@ caused a refusal = option_map (catalog_cause a) refusal
 -- ---- templates and streams
 
 abbrev pub put_template : Machine → List ℕ → Data → Option Fault → Stepped
-put_template m name body (Some fault) = unchanged m (refused (cause.bad_template fault.kind fault.path))
+put_template m name body (Some fault) = unchanged m (refused (cause.BadTemplate fault.kind fault.path))
 put_template m name body None =
     unless (caused (about_name name) (template_refusal (facts_of m.catalog) (template_of name body))) m
     (changed m ack (template_put m.catalog (template_of name body)))
@@ -104,7 +99,7 @@ put_stream m name =
     unless (caused (about_name name) (create_refusal (facts_of m.catalog) name m.now)) m (changed m ack (created m.catalog name m.now))
 
 abbrev pub get_stream : Machine → List ℕ → Stepped
-get_stream m name = with_found (stream_named name m.catalog.streams) (unchanged m (refused (cause.no_such_name name))) (λ s. unchanged m (stream_reply (facts_of m.catalog) s))
+get_stream m name = with_found (stream_named name m.catalog.streams) (unchanged m (refused (cause.NoSuchName name))) (λ s. unchanged m (stream_reply (facts_of m.catalog) s))
 
 abbrev pub delete_stream : Machine → List ℕ → Stepped
 delete_stream m name = unless (caused (about_name name) (named_refusal (facts_of m.catalog) name)) m (changed m ack (stream_deleted m.catalog name))
@@ -122,7 +117,7 @@ rollover m name =
 abbrev pub put_lifecycle : Machine → List ℕ → Data → Stepped
 put_lifecycle m name body =
     unless (caused (about_name name) (named_refusal (facts_of m.catalog) name)) m
-    (with_found (lifecycle_of body) (unchanged m (refused cause.bad_body)) (λ life. changed m ack (life_set m.catalog name life)))
+    (with_found (lifecycle_of body) (unchanged m (refused cause.BadBody)) (λ life. changed m ack (life_set m.catalog name life)))
 
 -- ---- indices
 
@@ -144,14 +139,14 @@ abbrev pub fold_names_refusal : PlainFacts → List ℕ → List ℕ → Option 
 fold_names_refusal f source target = on_found (facts_named source f.indices) (of_catalog.NoSuchName source) (λ i. when (is_taken target f) (of_catalog.NameTaken target))
 
 abbrev pub downsample_by : Way → Machine → List ℕ → List ℕ → Option Interval → Stepped
-downsample_by way m source target None = unless (caused (about_name target) (fold_names_refusal (facts_of m.catalog) source target)) m (unchanged m (refused cause.bad_body))
+downsample_by way m source target None = unless (caused (about_name target) (fold_names_refusal (facts_of m.catalog) source target)) m (unchanged m (refused cause.BadBody))
 downsample_by way m source target (Some by) =
     unless (caused (about_fold (facts_of m.catalog) source target by) (downsample_refusal (facts_of m.catalog) source target by)) m
     (changed m ack (downsampled way m.catalog source target by))
 
 abbrev pub modify : Machine → Data → Stepped
 modify m body =
-    with_found (moves_of body) (unchanged m (refused cause.bad_body)) (λ moves.
+    with_found (moves_of body) (unchanged m (refused cause.BadBody)) (λ moves.
     unless (caused (about_name []) (moves_refusal (facts_of m.catalog) moves)) m (changed m ack (moved_all m.catalog moves)))
 
 -- ---- documents
@@ -164,14 +159,14 @@ bulk way m (Ok items) = changed m (bulk_reply items (outcomes_of way m.catalog i
 
 abbrev pub search : Searching → Way → Machine → List ℕ → Option Data → Stepped
 search searching way m name body =
-    unchanged m (with_found (target_of m.catalog name) (refused (cause.no_such_name name)) (λ is. searching.search m.now (facts_in is) (samples_of way is) body))
+    unchanged m (with_found (target_of m.catalog name) (refused (cause.NoSuchName name)) (λ is. searching.search m.now (facts_in is) (samples_of way is) body))
 
 abbrev pub count : Searching → Way → Machine → List ℕ → Option Data → Stepped
 count searching way m name body =
-    unchanged m (with_found (target_of m.catalog name) (refused (cause.no_such_name name)) (λ is. searching.count m.now (facts_in is) (samples_of way is) body))
+    unchanged m (with_found (target_of m.catalog name) (refused (cause.NoSuchName name)) (λ is. searching.count m.now (facts_in is) (samples_of way is) body))
 
 abbrev pub get_document : Way → Machine → List ℕ → List ℕ → Stepped
-get_document way m n id = unchanged m (with_found (index_named n m.catalog.indices) (refused (cause.no_such_name n)) (λ i. get_reply way i id))
+get_document way m n id = unchanged m (with_found (index_named n m.catalog.indices) (refused (cause.NoSuchName n)) (λ i. get_reply way i id))
 
 -- ---- tasks and records
 
@@ -180,7 +175,7 @@ run_lifecycle m = let run = lifecycle_run m.catalog m.now in changed m (ran_repl
 
 -- the image of the machine is written, where it keeps records
 abbrev pub flush : Machine → Stepped
-flush m = if m.kept then record { reply = ack; machine = m; wrote = true } else unchanged m (refused cause.no_data)
+flush m = if m.kept then record { reply = ack; machine = m; wrote = true } else unchanged m (refused cause.NoData)
 
 -- ---- all requests
 

@@ -7,7 +7,8 @@ use Rattle.rest_request.specs.Message.{Message}
 use Rattle.stream_catalog.specs.Ways.{Way}
 use Rattle.time_text.specs.Instant.{IsInstant}
 use Rattle.tsds_service.specs.Machine.{Machine, see, unit}
-use Rattle.tsds_service.specs.Messages.{Told, message_told, MomentTold, moment_told}
+use Rattle.tsds_service.specs.Messages.{Told, message_told, moment_told}
+use Rattle.tsds_service.specs.declared.moments.MomentTold.{MomentTold}
 use Rattle.tsds_service.specs.Questions.{Searching}
 use Rattle.tsds_service.specs.Requests.{Stepped, step}
 use Rattle.tsds_service.specs.declared.reply.Reply.{Reply}

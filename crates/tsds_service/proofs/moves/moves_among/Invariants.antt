@@ -1,0 +1,9 @@
+use Rattle.std.proofs.Common.{◌≡◌, ◌++◌, drop}
+use Rattle.std.specs.Prelude.{option_map}
+use Rattle.serde_json.specs.View.{items_view}
+use Rattle.tsds_service.specs.Bodies.{moves_in}
+use Rattle.tsds_service.proofs.moves.moves_among.Given as goal
+
+-- what was read, before what the rest gives, is what all give
+abbrev pub invariant-loop-item : goal.invariant-loop-item
+invariant-loop-item l = option_map (λ ms. l.moves.items ++ ms) (moves_in (items_view (drop l.item-index l.items))) ≡ moves_in (items_view l.items)
